@@ -71,8 +71,8 @@ typedef struct wokhleas_resolver {
 #define WOKHLEAS_RESOLVER_INIT { NULL, false }
 
 typedef struct wokhleas_limits {
-    size_t requests;  /* the most requests that are inside, from 1 to 1,024 */
-    size_t questions; /* the most questions that are out over datagrams, and over streams, from 2 to 512 */
+    size_t requests;  /* the most requests that are inside, from 1 to 65,536 */
+    size_t questions; /* the most questions that are out over datagrams, and over streams, from 2 to 8,192 */
     bool streams;     /* whether the caller asks over TCP where a reply was cut; else requests that need it end */
 } wokhleas_limits;
 

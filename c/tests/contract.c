@@ -153,18 +153,18 @@ static void test_closing(void) {
 static void test_opening(void) {
     wokhleas_resolver resolver = WOKHLEAS_RESOLVER_INIT;
     EXPECT_STATUS(open_resolver(&resolver, 0, 2, true), WOKHLEAS_EARGUMENT);
-    EXPECT_STATUS(open_resolver(&resolver, 1025, 2, true), WOKHLEAS_EARGUMENT);
+    EXPECT_STATUS(open_resolver(&resolver, 65537, 2, true), WOKHLEAS_EARGUMENT);
     EXPECT_STATUS(open_resolver(&resolver, SIZE_MAX, 2, true), WOKHLEAS_EARGUMENT);
     EXPECT_STATUS(open_resolver(&resolver, 1, 0, false), WOKHLEAS_EARGUMENT);
     EXPECT_STATUS(open_resolver(&resolver, 1, 1, false), WOKHLEAS_EARGUMENT);
-    EXPECT_STATUS(open_resolver(&resolver, 1, 513, false), WOKHLEAS_EARGUMENT);
+    EXPECT_STATUS(open_resolver(&resolver, 1, 8193, false), WOKHLEAS_EARGUMENT);
     EXPECT_STATUS(open_resolver(&resolver, 1, SIZE_MAX, false), WOKHLEAS_EARGUMENT);
     expect_closed(&resolver);
-    EXPECT_STATUS(open_resolver(&resolver, 1024, 512, true), WOKHLEAS_OK);
+    EXPECT_STATUS(open_resolver(&resolver, 65536, 8192, true), WOKHLEAS_OK);
     wokhleas_close(&resolver);
     EXPECT_STATUS(open_resolver(&resolver, 1, 2, false), WOKHLEAS_OK);
     EXPECT_STATUS(submit(&resolver, 7, "sip:host.example:5070", &by_udp, WOKHLEAS_NEVER), WOKHLEAS_OK);
-    EXPECT_STATUS(open_resolver(&resolver, 1024, 512, true), WOKHLEAS_EOPEN);
+    EXPECT_STATUS(open_resolver(&resolver, 65536, 8192, true), WOKHLEAS_EOPEN);
     EXPECT(serve(&resolver, 0, zone), 1);
     EXPECT_OUTCOMES(&resolver, "7: udp 192.0.2.7 5070");
     wokhleas_close(&resolver);

@@ -41,7 +41,7 @@ impl Asker {
     /// this number of questions wait at once; the tickets are numbered from the serial on.
     pub fn new(alloc: Global, limit: usize, serial: u64) -> Result<Asker, AllocError>
         requires some { 1 ≤ limit }
-        requires few { limit ≤ 256 }
+        requires few { limit ≤ 4096 }
         ensures { IfOk result (λ it. it
             ≡ record { tickets = []; limit = limit; serial = serial; schedule = usual }) }
     {
@@ -57,7 +57,7 @@ impl Asker {
         schedule: Schedule,
     ) -> Result<Asker, AllocError>
         requires some { 1 ≤ limit }
-        requires few { limit ≤ 256 }
+        requires few { limit ≤ 4096 }
         requires sends { (1 ≤ schedule.sends) × (schedule.sends ≤ 15) }
         requires wait { (1 ≤ schedule.wait) × (schedule.wait ≤ 60) }
         ensures { IfOk result (λ it. it

@@ -29,7 +29,7 @@ impl Model for IdTable {
 impl IdTable {
     /// No ids; so many will be open at once at most.
     pub(crate) fn new(alloc: Global, limit: usize) -> Result<IdTable, AllocError>
-        requires { limit ≤ 256 }
+        requires { limit ≤ 4096 }
         ensures { IfOk result (λ it. (id : ℕ) → place_in it id ≡ None) }
     {
         Ok(IdTable {

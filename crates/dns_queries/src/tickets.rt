@@ -65,7 +65,7 @@ impl Tickets {
         schedule: Schedule,
     ) -> Result<Tickets, AllocError>
         requires some { 1 ≤ limit }
-        requires few { limit ≤ 256 }
+        requires few { limit ≤ 4096 }
         requires sends { (1 ≤ schedule.sends) × (schedule.sends ≤ 15) }
         requires wait { (1 ≤ schedule.wait) × (schedule.wait ≤ 60) }
         ensures none { IfOk result

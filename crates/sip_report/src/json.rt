@@ -1,5 +1,5 @@
 //! What became of a text as an object of JSON (RFC 8259). Its keys and types are those of
-//! docs/sipwhere.schema.json.
+//! share/sipwhere.schema.json.
 ghost use Rattle.std.specs.Prelude.{◌≡◌, ◌++◌, ◌∷◌, [], IfOk};
 ghost use Rattle.std.specs.String.{string_bytes};
 ghost use Rattle.serde_json.specs.Data.{string};

@@ -20,7 +20,7 @@ use Rattle.sip_resolver.specs.declared.transmit.DnsTransport.TheVariants.{Datagr
 turned : (one other : Ticket) → Differ one other → Differ other one
 turned one other it = ((λ e. it.0 (sym e)), (λ e. it.1 (sym e)))
 
-pairs-head : (x : Ticket) (xs : List Ticket) → AllPairs Differ (x ∷ xs) → All (Differ x) xs
+pub pairs-head : (x : Ticket) (xs : List Ticket) → AllPairs Differ (x ∷ xs) → All (Differ x) xs
 pairs-head x xs pairs = λ k d small. pairs 0 (suc k) d (omega arith) (omega arith)
 
 pairs-tail : (x : Ticket) (xs : List Ticket) → AllPairs Differ (x ∷ xs) → AllPairs Differ xs

@@ -1,10 +1,9 @@
 -- The requests that wait, while questions are asked, sent again, given up and closed.
 use Rattle.std.proofs.Common.{◌≡◌, ◌≢◌, inl, inr, nat_eq, ℕ, ◌+◌, Bool, true, false, not, nat_le, List, [], ◌∷◌, ◌++◌, Option, Some, None, refl, sym, rules}
 use Rattle.std.specs.List.{All, filter}
-use Rattle.std.specs.Option.{IfSome, IsSome, MatchOption}
+use Rattle.std.specs.Option.{IfSome, IsSome}
 use Rattle.std.proofs.lemmas.List.Elements.{All-cons, All-head, All-nil, All-push, All-tail, All-weaker}
 use Rattle.dns_queries.specs.Events.{IsGivenUp, IsResent, again}
-use Rattle.dns_queries.specs.Out.{HasQuestion, LacksQuestion}
 use Rattle.dns_queries.specs.Tickets.{Asking, Sent, Ticket, has_id, ticket_of, waiting_too, without}
 use Rattle.dns_queries.specs.declared.schedule.Schedule.{Schedule}
 use Rattle.dns_message.specs.declared.question.Question.{Question}
@@ -105,14 +104,14 @@ has-asked ticket tickets =
     some-unless (ticket_of ticket.sent.id (waiting_too ticket tickets))
     (λ none. of-ticket (is-other ticket.sent.id) ticket tickets (none-has ticket.sent.id (waiting_too ticket tickets) none) refl)
 
-stays-again : (id : ℕ) (schedule : Schedule) (now : ℕ) (ticket : Ticket) (others : List Ticket)
+pub stays-again : (id : ℕ) (schedule : Schedule) (now : ℕ) (ticket : Ticket) (others : List Ticket)
     → IsSome (ticket_of id (ticket ∷ others)) → IsSome (ticket_of id (waiting_too (again schedule now ticket) others))
 stays-again id schedule now ticket others some =
     stays id (ticket ∷ others) (waiting_too (again schedule now ticket) others)
     (λ all. All-cons (is-other id) ticket others (of-ticket (is-other id) (again schedule now ticket) others all)
     (of-others (is-other id) (again schedule now ticket) others all)) some
 
-stays-rest : (id : ℕ) (ticket : Ticket) (others : List Ticket) → id ≢ ticket.sent.id → IsSome (ticket_of id (ticket ∷ others))
+pub stays-rest : (id : ℕ) (ticket : Ticket) (others : List Ticket) → id ≢ ticket.sent.id → IsSome (ticket_of id (ticket ∷ others))
     → IsSome (ticket_of id others)
 stays-rest id ticket others other some =
     stays id (ticket ∷ others) others (λ all. All-cons (is-other id) ticket others (λ same. other (sym same)) all) some
@@ -227,8 +226,7 @@ closed-in Stream id old waiting it =
     (λ other differs some. stays-closed other id differs old.streams.tickets some) waiting
     (in-flipped old.datagrams.tickets old.streams.tickets waiting it))
 
-pub streams-out : (question : Question) (it : QuestionsView) (found : Option ℕ)
-    → MatchOption found (LacksQuestion question it.streams.tickets) (λ id. HasQuestion question id it.streams.tickets)
+pub streams-out : (it : QuestionsView) (found : Option ℕ) → IfSome found (λ id. IsSome (ticket_of id it.streams.tickets))
     → IfSome found (λ id. IsOut id it)
-streams-out question it None has = tt
-streams-out question it (Some id) has = inr (rw has.there refl)
+streams-out it None some = tt
+streams-out it (Some id) some = inr some

@@ -33,10 +33,17 @@ module _ {I : Type 0} (draws : I → ℕ → I → Type 0) (it : QuestionsView) 
   may-refuse Datagram Memory refuses none other = tt
   may-refuse Stream Memory refuses none other = tt
 
-  pub may-refuse-all : (over : DnsTransport) (result : Result ℕ AskRefusal) → IfErr result (Refuses (asking_over over it) id)
+  -- or for want of memory
+  may-refuse-too : (over : DnsTransport) (refusal : AskRefusal) → Refuses (asking_over over it) id refusal ⊎ (refusal ≡ Memory)
+      → ticket_of id it.datagrams.tickets ≡ None → ticket_of id it.streams.tickets ≡ None → MayRefuse draws it refusal
+  may-refuse-too over refusal (inl refuses) none other = may-refuse over refusal refuses none other
+  may-refuse-too over refusal (inr memory) none other = rw memory tt
+
+  pub may-refuse-all : (over : DnsTransport) (result : Result ℕ AskRefusal)
+      → IfErr result (λ refusal. Refuses (asking_over over it) id refusal ⊎ (refusal ≡ Memory))
       → ticket_of id it.datagrams.tickets ≡ None → ticket_of id it.streams.tickets ≡ None → IfErr result (MayRefuse draws it)
   may-refuse-all over (Ok found) refuses none other = tt
-  may-refuse-all over (Err refusal) refuses none other = may-refuse over refusal refuses none other
+  may-refuse-all over (Err refusal) refuses none other = may-refuse-too over refusal refuses none other
 
 pub cannot-ask : {I : Type 0} (draws : I → ℕ → I → Type 0) (it : QuestionsView) (refusal : AskRefusal) → MayRefuse draws it refusal
     → (refusal ≡ Full) ⊎ (refusal ≡ IdTaken) → CannotAsk draws it
@@ -59,7 +66,7 @@ none-out id it none = (
 
 -- one more is given up
 pub given-up-few : (now id : ℕ) (question : Question) (old new : Asking) (count : ℕ) → IsGivenUp old new now id question
-    → length old.tickets + count ≤ 256 → length new.tickets + (count + 1) ≤ 256
+    → length old.tickets + count ≤ 4096 → length new.tickets + (count + 1) ≤ 4096
 given-up-few now id question old new count is few =
     let whole = ap length is.first in
     rw is.left (omega (arith, whole, few))
@@ -73,7 +80,7 @@ pub resent-limit : (now id : ℕ) (octets : List ℕ) (first : ℕ) (old new : A
 resent-limit now id octets first old new is same = rw is.left same
 
 -- after as many as there can be, none is left
-pub none-left : (P : Ticket → Type 0) (tickets : List Ticket) (count : ℕ) → 256 ≤ count → length tickets + count ≤ 256 → All P tickets
+pub none-left : (P : Ticket → Type 0) (tickets : List Ticket) (count : ℕ) → 4096 ≤ count → length tickets + count ≤ 4096 → All P tickets
 none-left P [] count all few = All-nil P
 none-left P (ticket ∷ tickets) count all few = absurd (omega (arith, all, few))
 
@@ -81,12 +88,12 @@ none-left P (ticket ∷ tickets) count all few = absurd (omega (arith, all, few)
 
 pub asked-few : {E : Type 0} (id : ℕ) (question : Question) (now : ℕ) (old new : Asking) (result : Result ℕ E)
     → IfOk result (λ found. (found ≡ id) × (new ≡ asked id question now old)) → OnErr result (new ≡ old)
-    → old.limit ≤ 256 → new.limit ≤ 256
+    → old.limit ≤ 4096 → new.limit ≤ 4096
 asked-few id question now old new (Ok found) is unchanged few = rw is.1 few
 asked-few id question now old new (Err _) is unchanged few = rw unchanged few
 
 pub heard-few : {E : Type 0} (old new : Asking) (result : Result Incoming E) → IfOk result (λ it. new ≡ left_by it old)
-    → OnErr result (new ≡ old) → old.limit ≤ 256 → new.limit ≤ 256
+    → OnErr result (new ≡ old) → old.limit ≤ 4096 → new.limit ≤ 4096
 heard-few old new (Ok (Ended id question ending)) left unchanged few = rw left few
 heard-few old new (Ok (Ignored why)) left unchanged few = rw left few
 heard-few old new (Err _) left unchanged few = rw unchanged few

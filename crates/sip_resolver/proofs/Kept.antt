@@ -5,14 +5,14 @@ use Rattle.std.proofs.lemmas.List.{length-append}
 use Rattle.std.proofs.lemmas.List.Sums.{sum_by-append, sum_by-cons}
 use Rattle.sip_resolver.proofs.Earlier.{counted, few-at, held-out, held-too, ready-too, waiting-out, waiting-too}
 use Rattle.sip_resolver.proofs.Numbers.{counts-as, few-of-each, some-at}
-use Rattle.sip_resolver.proofs.Waiters.{left-is, place-is}
 use Rattle.sip_resolver.proofs.Weighing as weighing
 use Rattle.sip_resolver.specs.Earliest.{IsEarliest, ends_at, untils_in}
 use Rattle.sip_resolver.specs.NumberFilters.{Counts, FilterView, count_at}
 use Rattle.sip_resolver.specs.Outcomes.{Ended, Sought}
-use Rattle.sip_resolver.specs.Queues.{IsWithoutAt, Queued}
-use Rattle.sip_resolver.specs.Requests.{AreKept, HaveRoom, IsBack, IsFirstFor, RequestsView, requests_of, weigh_numbers}
+use Rattle.sip_resolver.specs.Queues.{Queued}
+use Rattle.sip_resolver.specs.Requests.{AreKept, HaveRoom, IsBack, RequestsView, requests_of, weigh_numbers}
 use Rattle.sip_resolver.specs.Tasks.{TaskView, WaitingView, sought_of}
+use Rattle.sip_resolver.specs.WaitingQueues.{IsWithoutFirstFor}
 use Rattle.sip_resolver.specs.declared.earliest.Earliest.{Earliest}
 
 module _ (ready held : Queued TaskView) (waiting : Queued WaitingView) (ended : Queued Ended) (limit : ℕ) (earliest : Earliest)
@@ -292,20 +292,15 @@ module _ (ready held : Queued TaskView) (waiting : Queued WaitingView) (ended : 
         }
 
   -- the first one that waits for a reply is taken out from its place
-  module _ (id place : ℕ) (one : WaitingView) (new : Queued WaitingView) (found : IsFirstFor id place waiting.items)
-      (out : IsWithoutAt place one waiting new) where
-    was-there : waiting.items ≡ found.first ++ one ∷ found.later
-    was-there = place-is id place waiting.items one found out.there
-
+  module _ (id : ℕ) (one : WaitingView) (new : Queued WaitingView) (out : IsWithoutFirstFor id one waiting new) where
     pub taken-counted : ends_at earliest.moment one.task.until ≤ earliest.count
-    taken-counted = waiting-counted found.first found.later one was-there
+    taken-counted = waiting-counted out.first out.later one out.was
 
     pub taken-there : 0 < count_at one.task.number numbers
-    taken-there = waiting-there found.first found.later one was-there
+    taken-there = waiting-there out.first out.later one out.was
 
     pub waiting-taken : (now : Earliest) (filter : FilterView) → Removed now one.task.until → Struck filter one.task.number
         → AreKept ready held new ended limit now filter
     waiting-taken now filter removed struck =
-        waiting-less found.first found.later one was-there new now filter
-        (ap (λ (q : Queued WaitingView). q.items) out.left ∙ left-is id place waiting.items one found out.there)
+        waiting-less out.first out.later one out.was new now filter (ap (λ (q : Queued WaitingView). q.items) out.left)
         (ap (λ (q : Queued WaitingView). q.room) out.left) removed struck

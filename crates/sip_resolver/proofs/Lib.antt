@@ -8,7 +8,10 @@ pub mod Beginning
 pub mod Weighing
 pub mod Storing
 pub mod Inside
+pub mod Linking
+pub mod Slotting
 pub mod Waiters
+pub mod Lining
 pub mod Settling
 pub mod Apart
 pub mod Deadlines
@@ -18,6 +21,7 @@ pub mod Turns
 pub mod Sending
 pub mod Idling
 pub mod Awaiting
+pub mod Indexing
 pub mod Letting
 pub mod Dealing
 pub mod Circling

@@ -40,7 +40,7 @@ module _ (it : RequestsView) (numbers : FilterView) (so : Counts (weigh_numbers 
       omega (arith, one, two, three, four)
 
   -- each slot has room for one more
-  pub few-of-each : (limit : ℕ) → count_of it < limit → limit ≤ 1024
+  pub few-of-each : (limit : ℕ) → count_of it < limit → limit ≤ 65536
       → All (λ count. count < 18446744073709551615) numbers.counts
   few-of-each limit room fits = λ slot d within.
       let is = so.each slot within in

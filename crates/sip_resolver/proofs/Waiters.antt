@@ -7,8 +7,10 @@ use Rattle.std.proofs.lemmas.List.Elements.{All-cons, All-head, All-tail, filter
 use Rattle.std.proofs.lemmas.Option.{get_or_from_slice_get}
 use Rattle.std.proofs.Math.Seq.{get_or-append_seam}
 use Rattle.sip_resolver.specs.Cancels.{is_awaited}
-use Rattle.sip_resolver.specs.Requests.{IsFirstFor, IsWithoutWaitingFor, RequestsView, count_of, requests_of, waiting_for, waiting_without, waits_for, waits_for_other}
+use Rattle.sip_resolver.specs.Queues.{Queued}
+use Rattle.sip_resolver.specs.Requests.{IsWithoutWaitingFor, RequestsView, count_of, requests_of, waiting_for, waiting_without, waits_for, waits_for_other}
 use Rattle.sip_resolver.specs.Tasks.{TaskView, WaitingView}
+use Rattle.sip_resolver.specs.WaitingQueues.{IsWithoutFirstFor}
 
 module _ (id : ℕ) where
   abbrev waiter : TaskView → WaitingView
@@ -57,7 +59,7 @@ module _ (id : ℕ) where
       let k = none-by x xs (nat_eq x.id id) refl none in
       rw k.0 (ap (λ l. x ∷ l) (all-without xs k.1))
 
-  none-awaited : (waiting : List WaitingView) → waiting_for id waiting ≡ [] → is_awaited waiting id ≡ false
+  pub none-awaited : (waiting : List WaitingView) → waiting_for id waiting ≡ [] → is_awaited waiting id ≡ false
   none-awaited [] none = refl
   none-awaited (x ∷ xs) none =
       let k = none-by x xs (nat_eq x.id id) refl none in rw k.0 (none-awaited xs k.1)
@@ -66,51 +68,10 @@ module _ (id : ℕ) where
   either-by true b is = refl
   either-by false b is = is
 
-  there-awaited : (task : TaskView) (first later : List WaitingView) → is_awaited (first ++ waiter task ∷ later) id ≡ true
+  pub there-awaited : (task : TaskView) (first later : List WaitingView) → is_awaited (first ++ waiter task ∷ later) id ≡ true
   there-awaited task [] later = rw (eq-eqb id id refl) refl
   there-awaited task (x ∷ first) later = either-by (nat_eq x.id id) (is_awaited (first ++ waiter task ∷ later) id)
       (there-awaited task first later)
-
-  -- one waits where there is a first one
-  pub awaited-where : (waiting : List WaitingView) (found : Option ℕ)
-      → MatchOption found (waiting_for id waiting ≡ []) (λ place. IsFirstFor id place waiting)
-      → is_some found ≡ is_awaited waiting id
-  awaited-where waiting None none = sym (none-awaited waiting none)
-  awaited-where waiting (Some place) it = rw it.are (sym (there-awaited it.task it.first it.later))
-
-  -- ---- a search along all that wait
-
-  module _ (waiting : List WaitingView) (place : ℕ) (it : WaitingView) (within : place < length waiting)
-      (here : slice_get waiting place ≡ Some it) (none : waiting_for id (take place waiting) ≡ []) where
-    parts : waiting ≡ take place waiting ++ it ∷ drop (place + 1) waiting
-    parts =
-        sym (take-append-drop place waiting)
-        ∙ ap (λ l. take place waiting ++ l) (drop-cons waiting place it within)
-        ∙ rw (get_or_from_slice_get waiting place it it here, add-one) refl
-
-    pub none-further : it.id ≢ id → waiting_for id (take (place + 1) waiting) ≡ []
-    none-further other =
-        rw (
-          take_more waiting place it within,
-          get_or_from_slice_get waiting place it it here,
-          filter-append (waits_for id) (take place waiting) (it ∷ []),
-          none,
-        )
-        (not-for-by it (nat_eq it.id id) refl other)
-
-    pub first-there : it.id ≡ id → IsFirstFor id place waiting
-    first-there same = record {
-      first = take place waiting;
-      task = it.task;
-      later = drop (place + 1) waiting;
-      are = rw (← same) parts;
-      is_first = none;
-      place_is = length-take-le place waiting (omega (arith, within));
-    }
-
-  pub none-there : (waiting : List WaitingView) (place : ℕ) → length waiting ≤ place → waiting_for id (take place waiting) ≡ []
-      → waiting_for id waiting ≡ []
-  none-there waiting place all none = rw (take_all place waiting all) at none
 
 -- ---- one is taken out from its place
 
@@ -134,39 +95,24 @@ module _ {X : Type 0} (x : X) (later : List X) where
       let k = all-of P first (All-tail P y (first ++ x ∷ later) all) in
       (All-cons P y (first ++ later) (All-head P y (first ++ x ∷ later) all) k.0, k.1)
 
-module _ (id place : ℕ) (waiting : List WaitingView) (it : WaitingView) (found : IsFirstFor id place waiting)
-    (there : slice_get waiting place ≡ Some it) where
-  its-self : it ≡ waiter id found.task
-  its-self =
-      let there' : slice_get (found.first ++ waiter id found.task ∷ found.later) (length found.first) ≡ Some it =
-      rw (found.place_is, ← found.are) there in
-      taken-of (waiter id found.task) found.later found.first it there'
+module _ (id : ℕ) (old new : RequestsView) (it : WaitingView) (was now : Queued WaitingView)
+    (out : IsWithoutFirstFor id it was now) where
+  its-self : it ≡ waiter id it.task
+  its-self = ap (λ n. record { id = n; task = it.task }) out.waits
 
-  -- it stands between the others, which are left
-  pub place-is : waiting ≡ found.first ++ it ∷ found.later
-  place-is = rw its-self found.are
-
-  pub left-is : remove waiting place ≡ found.first ++ found.later
-  left-is = rw (found.are, ← found.place_is) (left-of (waiter id found.task) found.later found.first)
-
-module _ (id place : ℕ) (old new : RequestsView) (it : WaitingView) (found : IsFirstFor id place old.waiting)
-    (there : slice_get old.waiting place ≡ Some it) where
-  its-task : it.task ≡ found.task
-  its-task = ap (λ (w : WaitingView). w.task) (its-self id place old.waiting it found there)
-
-  pub out-of-place : new ≡ record old { waiting = remove old.waiting place } → count_of old ≤ old.limit
+  pub out-of-place : old.waiting ≡ was.items → new ≡ record old { waiting = now.items } → count_of old ≤ old.limit
       → IsWithoutWaitingFor id it.task old new
-  out-of-place is few =
-      let others : new ≡ record old { waiting = found.first ++ found.later } =
-      is ∙ ap (λ l. requests_of old.ready old.held l old.ended old.limit) (left-is id place old.waiting it found there) in
+  out-of-place same is few =
+      let others : new ≡ record old { waiting = out.first ++ out.later } =
+      is ∙ ap (λ (q : Queued WaitingView). requests_of old.ready old.held q.items old.ended old.limit) out.left in
       record {
-        first = found.first;
-        later = found.later;
-        was = rw its-task found.are;
-        is_first = found.is_first;
+        first = out.first;
+        later = out.later;
+        was = same ∙ out.was ∙ ap (λ w. out.first ++ w ∷ out.later) its-self;
+        is_first = out.is_first;
         others = others;
         room =
-            let was = ap length found.are ∙ length-append found.first (waiter id found.task ∷ found.later) in
-            let left = length-append found.first found.later in
-            rw others (omega (arith, few, was, left));
+            let all = ap length same ∙ ap length out.was ∙ length-append out.first (it ∷ out.later) in
+            let left = length-append out.first out.later in
+            rw others (omega (arith, few, all, left));
       }

@@ -1,4 +1,5 @@
 pub mod Questions
+pub mod QuestionTables
 pub mod TargetLists
 pub mod Outcomes
 pub mod Ends
@@ -8,6 +9,7 @@ pub mod Queues
 pub mod Earliest
 pub mod NumberFilters
 pub mod Requests
+pub mod WaitingQueues
 pub mod Cancels
 pub mod Expiries
 pub mod Idle

@@ -77,12 +77,12 @@ pub record AreDistinct (it : QuestionsView) : Type 0 where
   pub streams : AllPairs Differ it.streams.tickets
   pub across : All (λ one. All (Differ one) it.streams.tickets) it.datagrams.tickets
 
--- They are so, no more than 256 can be out over datagrams or over streams, and all are sent by one
--- schedule.
+-- They are so, no more than 4,096 can be out over datagrams or over streams, and all are sent by
+-- one schedule.
 pub record AreBounded (it : QuestionsView) : Type 0 where
   pub distinct : AreDistinct it
-  pub few_datagrams : it.datagrams.limit ≤ 256
-  pub few_streams : it.streams.limit ≤ 256
+  pub few_datagrams : it.datagrams.limit ≤ 4096
+  pub few_streams : it.streams.limit ≤ 4096
   pub scheduled : IsScheduled it
 
 -- A message to send is that of the question of the ticket of this id (RFC 1035 4.1.1), and says

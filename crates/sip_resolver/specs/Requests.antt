@@ -81,15 +81,6 @@ waits_for_other id waiting = not (waits_for id waiting)
 abbrev pub waiting_without : ℕ → List WaitingView → List WaitingView
 waiting_without id waiting = filter (waits_for_other id) waiting
 
--- this is the place of the first request that waits for the reply to the question of this id
-pub record IsFirstFor (id place : ℕ) (waiting : List WaitingView) : Type 0 where
-  pub first : List WaitingView
-  pub task : TaskView
-  pub later : List WaitingView
-  pub are : waiting ≡ first ++ record { id = id; task = task } ∷ later
-  pub is_first : waiting_for id first ≡ []
-  pub place_is : length first ≡ place
-
 -- ---- one is taken out
 
 pub record IsWithoutReady (task : TaskView) (old new : RequestsView) : Type 0 where
@@ -142,7 +133,7 @@ weigh_numbers it h = weight (λ sought. h sought.number) it
 pub record AreKept (ready held : Queued TaskView) (waiting : Queued WaitingView)
     (ended : Queued Ended) (limit : ℕ) (earliest : Earliest) (numbers : FilterView) : Type 0 where
   pub room : HaveRoom ready held waiting ended limit
-  pub fits : limit ≤ 1024
+  pub fits : limit ≤ 65536
   pub earliest_is : IsEarliest (untils_in ready.items held.items waiting.items) earliest
   pub numbers_are : Counts
       (weigh_numbers (requests_of ready.items held.items waiting.items ended.items limit)) numbers

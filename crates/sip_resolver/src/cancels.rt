@@ -6,8 +6,9 @@ ghost use Rattle.sip_resolver.specs.Requests.{count_of, number_of_ended, number_
 use crate::outcome::Resolved;
 use crate::questions::Questions;
 use crate::ready::Ready;
-use crate::requests::{Requests, Waiting};
+use crate::requests::Requests;
 use crate::task::Task;
+use crate::waiting_slots::Waiting;
 
 /// Takes all requests of this number out of those that wait, and closes the questions that none
 /// waits for any more.

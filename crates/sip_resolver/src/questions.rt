@@ -1,32 +1,34 @@
 //! The questions that are out, over datagrams and over streams.
-ghost use Rattle.std.specs.Prelude.{◌≡◌, ℕ, ◌≤◌, ◌↔◌, [], None, Err, IfErr, IfNone, IfOk, IfSome, IsTrue, MatchOption, OnErr};
+ghost use Rattle.std.specs.Prelude.{◌≡◌, ◌⊎◌, ℕ, ◌≤◌, ◌↔◌, [], None, Err, IfErr, IfNone, IfOk, IfSome, IsTrue, MatchOption, OnErr};
 ghost use Rattle.answer_cache.specs.Seats.{SeatView};
 ghost use Rattle.std.specs.List.{All};
-ghost use Rattle.dns_queries.specs.Events.{Means, Refuses, asked as asked_too};
-ghost use Rattle.dns_queries.specs.Out.{HasQuestion};
+ghost use Rattle.dns_queries.specs.Events.{Means, Refuses, asked as asked_too, closed as closed_in, left_by};
+ghost use Rattle.dns_queries.specs.Out.{HasQuestion, LacksQuestion};
 ghost use Rattle.dns_queries.specs.Tickets.{ticket_of};
 ghost use Rattle.sip_resolver.specs.Ends.{EndsMore};
 ghost use Rattle.dns_queries.specs.declared.refusal.AskRefusal.TheVariants as refusals;
 ghost use Rattle.sip_resolver.specs.Idle.{AreAwaited, AreTaken, HasNoRoom, IsFull, IsInWait, IsOut, MayRefuse};
 ghost use Rattle.sip_resolver.specs.Questions.{AreDistinct, IsLeast, IsScheduled, IsSent, Lacks, asked_over, asking_over, closed_both, closed_over, count_out, deadlines_of, left_over, none_out, schedule_of};
+ghost use Rattle.sip_resolver.specs.QuestionTables.{IsIndex, id_in};
 ghost use Rattle.sip_resolver.specs.Requests.{AreSame, Stand};
 ghost use Rattle.sip_resolver.specs.Sends.{GivesUpBoth, IsInTime, SendsAfter, tickets_of};
 
 use crate::facts::Facts;
 use crate::ids::Ids;
+use crate::question_table::QuestionTable;
 use crate::requests::Requests;
 use crate::rounding::later_of;
 use crate::transmit::{DnsTransport, Transmit};
 use crate::waits::next_resend;
 use answer_cache::AnswerBook;
 use dns_answers::Moment;
-use dns_message::Question;
+use dns_message::{Question, law_same_questions_are_equal};
 use dns_queries::{AskRefusal, Asker, Incoming, Schedule};
 use std::alloc::{AllocError, Global};
 use std::marker::Model;
 
 /// How many ids are drawn at most for a question: one more than the questions that can be out.
-const DRAW_LIMIT: usize = 513;
+const DRAW_LIMIT: usize = 8_193;
 
 /// The questions that are out. No two have one id, no two are one question, and all are sent by one
 /// schedule.
@@ -34,18 +36,24 @@ const DRAW_LIMIT: usize = 513;
 pub(crate) struct Questions {
     datagrams: Asker,
     streams: Asker,
+    /// The ids of those over datagrams.
+    datagram_ids: QuestionTable,
+    /// The ids of those over streams.
+    stream_ids: QuestionTable,
 }
 
 impl Model for Questions {
     ghost use Rattle.sip_resolver.specs.Idle.{AreAwaited, AreTaken, IsFull, IsInWait, IsOut, MayRefuse};
-    ghost use Rattle.sip_resolver.specs.Questions.{AreBounded, QuestionsView};
+    ghost use Rattle.sip_resolver.specs.Questions.{QuestionsView};
+    ghost use Rattle.sip_resolver.specs.QuestionTables.{AreIndexed};
 
     ghost Value = { QuestionsView };
 
     ghost view = { λ it. record { datagrams = it.datagrams; streams = it.streams } };
 
-    ghost invariant = { λ it. AreBounded
-        (record { datagrams = it.datagrams; streams = it.streams }) };
+    ghost invariant = { λ it. AreIndexed
+        (record { datagrams = it.datagrams; streams = it.streams })
+        it.datagram_ids it.stream_ids };
 }
 
 impl Questions {
@@ -56,7 +64,7 @@ impl Questions {
         schedule: Schedule,
     ) -> Result<Questions, AllocError>
         requires some { 1 ≤ limit }
-        requires few { limit ≤ 256 }
+        requires few { limit ≤ 4096 }
         requires sends { (1 ≤ schedule.sends) × (schedule.sends ≤ 15) }
         requires wait { (1 ≤ schedule.wait) × (schedule.wait ≤ 60) }
         ensures { IfOk result (λ it. it ≡ none_out limit schedule) }
@@ -64,6 +72,8 @@ impl Questions {
         Ok(Questions {
             datagrams: Asker::with_schedule(alloc, limit, 0, schedule)?,
             streams: Asker::with_schedule(alloc, limit, 0, schedule)?,
+            datagram_ids: QuestionTable::new(alloc),
+            stream_ids: QuestionTable::new(alloc),
         })
     }
 
@@ -79,7 +89,7 @@ impl Questions {
     /// How many there are.
     pub(crate) fn len(&self) -> usize
         ensures is { result ≡ count_out self.now }
-        ensures few { result ≤ 512 }
+        ensures few { result ≤ 8192 }
     {
         self.datagrams.law_stands_in_order();
         self.streams.law_stands_in_order();
@@ -115,10 +125,10 @@ impl Questions {
         ensures lacks { result ≡ None → Lacks question.now self.now }
         ensures out { IfSome result (λ id. IsOut id self.now) }
     {
-        if let Some(id) = self.datagrams.id_of(question) {
+        if let Some(id) = self.datagram_ids.get(question) {
             return Some(id);
         }
-        self.streams.id_of(question)
+        self.stream_ids.get(question)
     }
 
     /// Asks a question that is not out, and gives its id. Where as many are out as can be, no id is
@@ -141,15 +151,20 @@ impl Questions {
         if self.is_full_over(over) {
             return Err(AskRefusal::Full);
         }
-        let Ok(question) = question.try_clone() else {
-            return Err(AskRefusal::Memory);
-        };
         let Some(id) = self.free_id(ids) else {
             return Err(AskRefusal::IdTaken);
         };
         match over {
-            DnsTransport::Datagram => asked(&mut self.datagrams, question, id, now),
-            DnsTransport::Stream => asked(&mut self.streams, question, id, now),
+            DnsTransport::Datagram => asked(
+                &mut self.datagrams,
+                &mut self.datagram_ids,
+                question,
+                id,
+                now,
+            ),
+            DnsTransport::Stream => {
+                asked(&mut self.streams, &mut self.stream_ids, question, id, now)
+            }
         }
     }
 
@@ -183,8 +198,8 @@ impl Questions {
         ensures unchanged { OnErr result (self.new ≡ self.old) }
     {
         match over {
-            DnsTransport::Datagram => self.datagrams.incoming(octets),
-            DnsTransport::Stream => self.streams.incoming(octets),
+            DnsTransport::Datagram => heard(&mut self.datagrams, &mut self.datagram_ids, octets),
+            DnsTransport::Stream => heard(&mut self.streams, &mut self.stream_ids, octets),
         }
     }
 
@@ -195,10 +210,10 @@ impl Questions {
             (λ taken. (self.new ≡ closed_over taken.0 id self.old)
             × HasQuestion taken.1 id (asking_over taken.0 self.old).tickets) }
     {
-        if let Some(question) = self.datagrams.cancel(id) {
+        if let Some(question) = taken(&mut self.datagrams, &mut self.datagram_ids, id) {
             return Some((DnsTransport::Datagram, question));
         }
-        match self.streams.cancel(id) {
+        match taken(&mut self.streams, &mut self.stream_ids, id) {
             Some(question) => Some((DnsTransport::Stream, question)),
             None => None,
         }
@@ -208,8 +223,8 @@ impl Questions {
     pub(crate) fn close(&mut self, id: u16)
         ensures { self.new ≡ closed_both id self.old }
     {
-        let _over_datagrams = self.datagrams.cancel(id);
-        let _over_streams = self.streams.cancel(id);
+        let _over_datagrams = taken(&mut self.datagrams, &mut self.datagram_ids, id);
+        let _over_streams = taken(&mut self.streams, &mut self.stream_ids, id);
     }
 
     /// Gives up the questions that were sent as often as the schedule says and whose replies did
@@ -235,10 +250,16 @@ impl Questions {
         self.datagrams.law_stands_in_order();
         self.streams.law_stands_in_order();
         let sent = later_of(now, asked);
-        if let Some(id) = next_resend::<B, F>(&mut self.datagrams, requests, now, sent) {
+        if let Some(id) = next_resend::<B, F>(
+            &mut self.datagrams,
+            &mut self.datagram_ids,
+            requests,
+            now,
+            sent,
+        ) {
             return Some(id);
         }
-        next_resend::<B, F>(&mut self.streams, requests, now, sent)
+        next_resend::<B, F>(&mut self.streams, &mut self.stream_ids, requests, now, sent)
     }
 
     /// The octets of the question that is out under this id, and over what it is.
@@ -278,15 +299,70 @@ impl Questions {
     }
 }
 
-/// Asks a question under an id that is not open.
-fn asked(asker: &mut Asker, question: Question, id: u16, now: Moment) -> Result<u16, AskRefusal>
+/// Asks a question under an id that is not open, and gives it this id in the table. The table has
+/// its memory before.
+fn asked(
+    asker: &mut Asker,
+    ids: &mut QuestionTable,
+    question: &Question,
+    id: u16,
+    now: Moment,
+) -> Result<u16, AskRefusal>
     ensures asked { IfOk result
-        (λ it. (it ≡ id) × (asker.new ≡ asked_too id question now asker.old)) }
+        (λ it. (it ≡ id) × (asker.new ≡ asked_too id question.now now asker.old)) }
     ensures unchanged { OnErr result (asker.new ≡ asker.old) }
-    ensures refused { IfErr result (Refuses asker.old id) }
+    ensures refused { IfErr result
+        (λ refusal. Refuses asker.old id refusal ⊎ (refusal ≡ refusals.Memory)) }
+    ensures index { LacksQuestion question.now asker.old.tickets
+        → ticket_of id asker.old.tickets ≡ None → IsIndex (id_in ids.old) asker.old.tickets
+        → IsIndex (id_in ids.new) asker.new.tickets }
 {
+    law_same_questions_are_equal();
+    let Ok(key) = question.try_clone() else {
+        return Err(AskRefusal::Memory);
+    };
+    let Ok(question) = question.try_clone() else {
+        return Err(AskRefusal::Memory);
+    };
+    if ids.reserve().is_err() {
+        return Err(AskRefusal::Memory);
+    }
     match asker.ask(question, id, now) {
-        Ok(_) => Ok(id),
+        Ok(_) => {
+            ids.insert(key, id);
+            Ok(id)
+        }
         Err(refusal) => Err(refusal),
     }
+}
+
+/// Takes octets that came in. Where they end the wait for a reply, its question leaves the table.
+fn heard(asker: &mut Asker, ids: &mut QuestionTable, octets: &[u8]) -> Result<Incoming, AllocError>
+    ensures means { IfOk result (Means asker.old octets.now) }
+    ensures left { IfOk result (λ it. asker.new ≡ left_by it asker.old) }
+    ensures unchanged { OnErr result (asker.new ≡ asker.old) }
+    ensures index { IsIndex (id_in ids.old) asker.old.tickets
+        → IsIndex (id_in ids.new) asker.new.tickets }
+{
+    law_same_questions_are_equal();
+    let heard = asker.incoming(octets)?;
+    if let Incoming::Ended(_, question, _) = &heard {
+        ids.remove(question);
+    }
+    Ok(heard)
+}
+
+/// Closes the question of this id, if one is open under it, and gives it. It leaves the table.
+fn taken(asker: &mut Asker, ids: &mut QuestionTable, id: u16) -> Option<Question>
+    ensures given { MatchOption result (ticket_of id asker.old.tickets ≡ None)
+        (λ question. HasQuestion question id asker.old.tickets) }
+    ensures left { asker.new ≡ closed_in id asker.old }
+    ensures unchanged { IfNone result (asker.new ≡ asker.old) }
+    ensures index { IsIndex (id_in ids.old) asker.old.tickets
+        → IsIndex (id_in ids.new) asker.new.tickets }
+{
+    law_same_questions_are_equal();
+    let question = asker.cancel(id)?;
+    ids.remove(&question);
+    Some(question)
 }

@@ -1,9 +1,8 @@
 //! A queue whose room is taken once.
-ghost use Rattle.std.specs.Prelude.{◌≡◌, ◌↔◌, ◌<◌, ◌≤◌, ℕ, List, [], ◌∷◌, ◌++◌, Option, Some, IfOk, IsSomeAnd, IsTrue, MatchOption, length, map, slice_get};
+ghost use Rattle.std.specs.Prelude.{◌≡◌, ◌↔◌, ◌<◌, ◌≤◌, ℕ, List, [], ◌∷◌, ◌++◌, Option, Some, IfOk, IsTrue, MatchOption, length, map, slice_get};
 ghost use Rattle.std.specs.List.{Contains, filter_map, sum_by};
 ghost use Rattle.sip_resolver.specs.Earliest.{ends_at};
 ghost use Rattle.sip_resolver.specs.Questions.{IsLeast};
-ghost use Rattle.sip_resolver.specs.Queues.{IsWithoutAt};
 
 use std::alloc::{AllocError, Global};
 use std::collections::VecDeque;
@@ -12,7 +11,7 @@ use std::marker::Model;
 /// Items in the order in which they came, in memory that `new` takes: a push takes none.
 #[derive(Drop)]
 pub(crate) struct Queue<T> {
-    items: VecDeque<T>,
+    pub(crate) items: VecDeque<T>,
 }
 
 impl<T> Model for Queue<T> {
@@ -64,14 +63,6 @@ impl<T> Queue<T> {
             × (self.new.room ≡ self.old.room)) }
     {
         self.items.pop_front()
-    }
-
-    /// Takes the one at a place out, and those behind it move up.
-    pub(crate) fn remove(&mut self, place: usize) -> Option<T>
-        requires { place < length self.old.items }
-        ensures { IsSomeAnd result (λ item. IsWithoutAt place item self.old self.new) }
-    {
-        self.items.remove(place)
     }
 }
 

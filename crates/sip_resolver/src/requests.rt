@@ -6,7 +6,7 @@ ghost use Rattle.sip_resolver.specs.Earliest.{IsEarliest, untils_in};
 ghost use Rattle.sip_resolver.specs.Expiries.{HaveTime, untils_of};
 ghost use Rattle.sip_resolver.specs.Outcomes.{Ended};
 ghost use Rattle.sip_resolver.specs.Questions.{IsLeast};
-ghost use Rattle.sip_resolver.specs.Requests.{IsAwaitedBy, IsFirstFor, IsWithoutEnded, IsWithoutHeld, IsWithoutReady, IsWithoutWaiting, IsWithoutWaitingFor, count_of, number_of_ended, numbers_of, requests_of, waiting_for};
+ghost use Rattle.sip_resolver.specs.Requests.{IsAwaitedBy, IsWithoutEnded, IsWithoutHeld, IsWithoutReady, IsWithoutWaiting, IsWithoutWaitingFor, count_of, number_of_ended, numbers_of, requests_of, waiting_for};
 ghost use Rattle.sip_resolver.specs.Tasks.{sought_of};
 
 use crate::earliest::Earliest;
@@ -15,41 +15,12 @@ use crate::outcome::{Outcome, Resolved};
 use crate::queue::{Numbered, Queue, Timed, least_of};
 use crate::ready::Ready;
 use crate::task::Task;
+use crate::waiting_queue::WaitingQueue;
+use crate::waiting_slots::Waiting;
 use dns_answers::Moment;
 use std::alloc::{AllocError, Global};
 use std::marker::Model;
 use std::snapshot::Snapshot;
-
-/// A request that waits for the reply to the message of this id.
-#[derive(Drop)]
-pub(crate) struct Waiting<B> {
-    pub(crate) id: u16,
-    pub(crate) task: Task<B>,
-}
-
-impl<B> Model for Waiting<B> {
-    ghost use Rattle.sip_resolver.specs.Tasks.{WaitingView};
-
-    ghost Value = { WaitingView };
-
-    ghost view = { λ it. record { id = it.id; task = it.task } };
-}
-
-impl<B> Numbered for Waiting<B> {
-    ghost numbered = { λ it. it.task.number };
-
-    fn number(&self) -> u64 {
-        self.task.number()
-    }
-}
-
-impl<B> Timed for Waiting<B> {
-    ghost until_of = { λ it. it.task.until };
-
-    fn its_until(&self) -> Option<u64> {
-        self.task.its_until()
-    }
-}
 
 /// The requests inside, and those that ended and were not taken.
 #[derive(Drop)]
@@ -59,7 +30,7 @@ pub(crate) struct Requests<B> {
     /// Their questions found as many others out as can be.
     held: Queue<Task<B>>,
     /// They wait for replies.
-    waiting: Queue<Waiting<B>>,
+    waiting: WaitingQueue<B>,
     /// They ended.
     ended: Queue<Resolved<B>>,
     /// How many there can be.
@@ -85,13 +56,13 @@ impl<B> Model for Requests<B> {
 impl<B> Requests<B> {
     /// None, with room for so many.
     pub(crate) fn new(alloc: Global, limit: usize) -> Result<Requests<B>, AllocError>
-        requires { limit ≤ 1024 }
+        requires { limit ≤ 65536 }
         ensures { IfOk result (λ it. it ≡ requests_of [] [] [] [] limit) }
     {
         Ok(Requests {
             ready: Queue::new(alloc, limit)?,
             held: Queue::new(alloc, limit)?,
-            waiting: Queue::new(alloc, limit)?,
+            waiting: WaitingQueue::new(alloc, limit)?,
             ended: Queue::new(alloc, limit)?,
             limit,
             earliest: Earliest::never(),
@@ -110,7 +81,7 @@ impl<B> Requests<B> {
     /// How many there are.
     pub(crate) fn len(&self) -> usize
         ensures is { result ≡ count_of self.now }
-        ensures few { result ≤ 1024 }
+        ensures few { result ≤ 65536 }
     {
         self.ready.len() + self.held.len() + self.waiting.len() + self.ended.len()
     }
@@ -155,20 +126,7 @@ impl<B> Requests<B> {
     pub(crate) fn is_awaited(&self, id: u16) -> bool
         ensures { result ≡ is_awaited self.now.waiting id }
     {
-        self.first_for(id).is_some()
-    }
-
-    /// The place of the first one that waits for the reply to the message of this id, if one waits.
-    fn first_for(&self, id: u16) -> Option<usize>
-        ensures { MatchOption result (waiting_for id self.now.waiting ≡ [])
-            (λ place. IsFirstFor id place self.now.waiting) }
-    {
-        'waits: for at in 0..self.waiting.len() {
-            if self.waiting.at(at).id == id {
-                return Some(at);
-            }
-        }
-        None
+        self.waiting.is_awaited(id)
     }
 
     /// The id of the message whose reply a request of this number waits for, if one waits.
@@ -177,13 +135,7 @@ impl<B> Requests<B> {
             (All (λ it. it.task.number ≡ number → ⊥) self.now.waiting)
             (λ id. IsAwaitedBy number id self.now.waiting) }
     {
-        'waits: for at in 0..self.waiting.len() {
-            let waiting = self.waiting.at(at);
-            if waiting.task.number() == number {
-                return Some(waiting.id);
-            }
-        }
-        None
+        self.waiting.awaited_id(number)
     }
 
     /// The first moment by which a request ends that has not ended.
@@ -354,8 +306,7 @@ impl<B> Requests<B> {
             ((waiting_for id self.old.waiting ≡ []) × (self.new ≡ self.old))
             (λ task. IsWithoutWaitingFor id task self.old self.new) }
     {
-        let place = self.first_for(id)?;
-        let waiting = self.waiting.remove(place)?;
+        let waiting = self.waiting.take_first_for(id)?;
         self.earliest.remove(waiting.its_until());
         self.numbers.remove(waiting.number());
         Some(waiting.task)

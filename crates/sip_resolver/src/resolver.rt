@@ -49,10 +49,10 @@ use std::sync::Arc;
 /// How many requests and questions a resolver has at once.
 #[derive(Clone, Copy, Debug)]
 pub struct Limits {
-    /// The most requests that are inside, from 1 to 1,024. One that ended counts until its outcome
+    /// The most requests that are inside, from 1 to 65,536. One that ended counts until its outcome
     /// is taken.
     pub requests: usize,
-    /// The most questions that are out over datagrams, and the most over streams, from 1 to 256.
+    /// The most questions that are out over datagrams, and the most over streams, from 1 to 4,096.
     pub questions: usize,
     /// Whether a question goes on over a stream where the reply to it over a datagram was cut. Else
     /// the requests that wait for it end.
@@ -108,8 +108,8 @@ impl<B: AnswerBook, F: Facts, I: Ids + Drop> Resolver<B, F, I> {
     /// A resolver with no request inside and no question out, which sends by the usual schedule
     /// (`Schedule::USUAL`).
     pub fn new(alloc: Global, limits: Limits, ids: I) -> Result<Resolver<B, F, I>, AllocError>
-        requires requests { (1 ≤ limits.requests) × (limits.requests ≤ 1024) }
-        requires questions { (1 ≤ limits.questions) × (limits.questions ≤ 256) }
+        requires requests { (1 ≤ limits.requests) × (limits.requests ≤ 65536) }
+        requires questions { (1 ≤ limits.questions) × (limits.questions ≤ 4096) }
         ensures { IfOk result
             (λ it. it ≡ begun_of limits.requests limits.questions limits.streams usual) }
     {
@@ -123,8 +123,8 @@ impl<B: AnswerBook, F: Facts, I: Ids + Drop> Resolver<B, F, I> {
         schedule: Schedule,
         ids: I,
     ) -> Result<Resolver<B, F, I>, AllocError>
-        requires requests { (1 ≤ limits.requests) × (limits.requests ≤ 1024) }
-        requires questions { (1 ≤ limits.questions) × (limits.questions ≤ 256) }
+        requires requests { (1 ≤ limits.requests) × (limits.requests ≤ 65536) }
+        requires questions { (1 ≤ limits.questions) × (limits.questions ≤ 4096) }
         requires sends { (1 ≤ schedule.sends) × (schedule.sends ≤ 15) }
         requires wait { (1 ≤ schedule.wait) × (schedule.wait ≤ 60) }
         ensures { IfOk result
@@ -160,7 +160,7 @@ impl<B: AnswerBook, F: Facts, I: Ids + Drop> Resolver<B, F, I> {
     #[must_use]
     pub fn request_count(&self) -> usize
         ensures is { result ≡ count_of self.now.requests }
-        ensures few { result ≤ 1024 }
+        ensures few { result ≤ 65536 }
     {
         self.requests.len()
     }
@@ -169,7 +169,7 @@ impl<B: AnswerBook, F: Facts, I: Ids + Drop> Resolver<B, F, I> {
     #[must_use]
     pub fn question_count(&self) -> usize
         ensures is { result ≡ count_out self.now.questions }
-        ensures few { result ≤ 512 }
+        ensures few { result ≤ 8192 }
     {
         self.questions.len()
     }

@@ -1,14 +1,15 @@
 //! How the wait for a reply ends, for the requests that share it.
 ghost use Rattle.std.specs.Prelude.{◌≡◌, ◌<◌, ◌≤◌, false, IfNone, IsTrue, List, MatchOption, length};
 ghost use Rattle.std.specs.Arc.{arc_value};
-ghost use Rattle.std.specs.List.{All};
+ghost use Rattle.std.specs.List.{All, AllPairs};
 ghost use Rattle.answer_cache.specs.Seats.{SeatView};
 ghost use Rattle.dns_queries.specs.Tickets.{Ticket as ticket};
 ghost use Rattle.sip_selection.specs.Choice.{need};
 ghost use Rattle.sip_selection.specs.Selections.{now_of};
 ghost use Rattle.sip_resolver.specs.Ends.{EndsMore};
 ghost use Rattle.sip_resolver.specs.Idle.{AreIn, IsInWait};
-ghost use Rattle.sip_resolver.specs.Questions.{Fewer};
+ghost use Rattle.sip_resolver.specs.Questions.{Differ, Fewer};
+ghost use Rattle.sip_resolver.specs.QuestionTables.{IsIndex, id_in};
 ghost use Rattle.sip_resolver.specs.Requests.{AreSame, IsBack, Stand, count_of};
 ghost use Rattle.sip_resolver.specs.Sends.{GivesUp, IsInTime, IsOverdue};
 ghost use Rattle.sip_resolver.specs.Tasks.{IsCounted, Lacks, sought_of};
@@ -17,6 +18,7 @@ ghost use Rattle.sip_resolver.specs.Waits.{EndsAs, Fits, GoesAs, IsClosed, IsFai
 
 use crate::facts::Facts;
 use crate::outcome::Outcome;
+use crate::question_table::QuestionTable;
 use crate::ready::Ready;
 use crate::requests::Requests;
 use crate::task::Task;
@@ -29,7 +31,7 @@ use std::alloc::AllocError;
 use std::sync::Arc;
 
 /// The most questions that can be out at once over datagrams, and over streams.
-const QUESTION_LIMIT: usize = 256;
+const QUESTION_LIMIT: usize = 4_096;
 
 /// How the wait for the reply to a question ended.
 #[derive(Drop)]
@@ -70,19 +72,23 @@ fn is_overdue(asker: &Asker, now: Moment) -> bool
 
 /// Gives up the questions that were sent as often as the schedule says and whose replies did not
 /// come in time, until one is to be sent once more, and gives its id. It counts as sent at `sent`.
+/// What is given up leaves the table.
 pub(crate) fn next_resend<B: AnswerBook, F: Facts>(
     asker: &mut Asker,
+    ids: &mut QuestionTable,
     requests: &mut Requests<B>,
     now: Moment,
     sent: Moment,
 ) -> Option<u16>
-    requires few { length asker.old.tickets ≤ 256 }
+    requires few { length asker.old.tickets ≤ 4096 }
     requires later { now ≤ sent }
     ensures in_wait { IfNone result (All (IsInWait now) asker.new.tickets) }
     ensures limit { asker.new.limit ≡ asker.old.limit }
     ensures awaited { (others : List ticket) → AreIn asker.old.tickets others requests.old.waiting
         → AreIn asker.new.tickets others requests.new.waiting }
     ensures fewer { Fewer asker.old.tickets asker.new.tickets }
+    ensures index { AllPairs Differ asker.old.tickets → IsIndex (id_in ids.old) asker.old.tickets
+        → IsIndex (id_in ids.new) asker.new.tickets }
     ensures stand { (seat : SeatView) → Stand F.gives F.shows seat requests.old
         → Stand F.gives F.shows seat requests.new }
     ensures same { AreSame requests.old requests.new }
@@ -91,6 +97,7 @@ pub(crate) fn next_resend<B: AnswerBook, F: Facts>(
     ensures sends { MatchOption result (GivesUp now asker.old asker.new)
         (λ id. Resends now sent id asker.old asker.new) }
 {
+    law_same_questions_are_equal();
     'dues: for _due in 0..QUESTION_LIMIT {
         if !is_overdue(asker, now) {
             return None;
@@ -99,6 +106,7 @@ pub(crate) fn next_resend<B: AnswerBook, F: Facts>(
             None => return None,
             Some(Due::Resend(id, _)) => return Some(id),
             Some(Due::GaveUp(id, question)) => {
+                ids.remove(question);
                 settle_all::<B, F>(requests, id, &WaitEnd::GivenUp(question));
             }
         }

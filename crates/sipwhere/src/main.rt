@@ -10,7 +10,6 @@ ghost use Rattle.sipwhere.specs.Statuses as spec;
 mod account;
 mod counting_book;
 mod destination;
-mod key_source;
 mod line;
 mod line_input;
 mod line_result;
@@ -20,14 +19,15 @@ mod open_lines;
 mod progress;
 mod request_fault;
 mod run;
+mod run_system;
 mod stats;
 mod submitted_lines;
 mod tell;
 
 use clap::error::ErrorKind;
 use clap::{ArgMatches, Error};
-use key_source::SystemEntropy;
 use run::run;
+use run_system::HostSystem;
 use sip_report::{FAULT_STATUS, Report, UNKNOWN_STATUS};
 use sipwhere_options::{
     OptionFault, Options, RunFault, Terminals, command, read_options, resolver_path,
@@ -117,7 +117,7 @@ fn run_as<R: Wait + Input + Print + Eprint + Files + Net + RandomSource + Clock 
     ensures range { result ≤ 5 }
 {
     let is_check = is_check(options.report);
-    match run(rt, &SystemEntropy::new(rt), options) {
+    match run(rt, &HostSystem::new(rt), options) {
         Ok(status) => status_in_form(rt, is_check, status, &"memory, input or output failed"),
         Err(fault) => {
             tell_fault(rt, options, &fault);

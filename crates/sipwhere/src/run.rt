@@ -9,25 +9,24 @@ ghost use Rattle.sipwhere.specs.OpenLines.{Stands};
 ghost use Rattle.sipwhere.specs.Runs.{AreRun, IsKey, IsRun, IsRunBy, IsRunOf, IsRunOfOptions, IsRunOnHost, IsRunWith, StaysSo, from_input};
 
 use crate::counting_book::CountingBook;
-use crate::key_source::KeySource;
 use crate::line::{Line, lines_of, numbered};
 use crate::line_input::LineInput;
 use crate::locate_settings::LocateSettings;
 use crate::noting_wire::{NameNotes, NotingWire};
 use crate::open_lines::OpenLines;
 use crate::progress::Progress;
+use crate::run_system::RunSystem;
 use crate::stats::tell_stats;
 use crate::tell::{FAULT_TOLD, NOTHING_TOLD, Told};
 use answer_cache::{ListCache, Stores};
 use dns_queries::Clock;
-use dns_transport::{HostWire, RunClock, Timer, Tracer, WireOptions, open_wire};
+use dns_transport::{HostWire, RunClock, Timer, Tracer, WireOptions};
 use sip_report::{Report, Style};
 use sip_tries::{Extent, PingForm, Pinger, ServerPinger, random_pings};
-use sipwhere_options::{Options, Pinging, Plan, RunFault, read_plan, reply_times_of, schedule_of};
+use sipwhere_options::{Options, Pinging, Plan, RunFault, reply_times_of, schedule_of};
 use std::alloc::Global;
 use std::io::{self, Read, Write};
 use std::net::Net;
-use std::rt::Files;
 use std::sync::Wait;
 use std::time::{self, Duration};
 
@@ -502,14 +501,17 @@ fn run_over<R: Wait + Input + Print + Eprint + Net + time::Clock>(
 }
 
 /// The key of a run: that of the options, or one that is drawn.
-fn key_for<K: KeySource>(keys: &K, seed: Option<[u8; 32]>) -> Result<[u8; 32], RunFault>
-    ensures key { IfOk result (IsKey K.drew seed) }
+fn key_for<W, C, S: RunSystem<W, C>>(
+    system: &S,
+    seed: Option<[u8; 32]>,
+) -> Result<[u8; 32], RunFault>
+    ensures key { IfOk result (IsKey S.drew seed) }
     ensures given { IfSome seed (λ key. result ≡ Ok key) }
-    ensures failed { IfErr result K.failed }
+    ensures failed { IfErr result S.failed }
 {
     match seed {
         Some(key) => Ok(key),
-        None => keys.draw_key(),
+        None => system.draw_key(),
     }
 }
 
@@ -517,21 +519,22 @@ fn key_for<K: KeySource>(keys: &K, seed: Option<[u8; 32]>) -> Result<[u8; 32], R
 ///
 /// # Errors
 ///
-/// Those of the resolver file, of the local address, of the source of keys, of the clock and of the
-/// sockets, and want of memory.
+/// Those of the system alone: of the resolver file, of the local address, of its random octets, of
+/// the clock and of the sockets, and want of memory.
 pub fn run<
-    R: Wait + Input + Print + Eprint + Files + Net + time::Clock + AllocGlobal,
-    K: KeySource,
->(rt: &R, keys: &K, options: &Options<'_>) -> Result<u8, RunFault>
+    'a,
+    R: Wait + Input + Print + Eprint + Net + time::Clock + AllocGlobal,
+    S: RunSystem<HostWire<'a, R>, RunClock<'a, R>>,
+>(rt: &'a R, system: &S, options: &Options<'_>) -> Result<u8, RunFault>
     ensures run { IfOk result
-        (λ status. (status ≡ 5) ⊎ IsRunOfOptions K.drew options.now status) }
+        (λ status. (status ≡ 5) ⊎ IsRunOfOptions S.drew options.now status) }
     ensures range { IfOk result (λ status. status ≤ 5) }
+    ensures failed { IfErr result S.failed }
 {
-    let alloc = rt.alloc();
-    let plan = read_plan(rt, options)?;
-    let key = key_for(keys, options.seed)?;
-    let clock = RunClock::start(rt)?;
+    let plan = system.plan(options)?;
+    let key = key_for::<HostWire<'_, R>, RunClock<'_, R>, S>(system, options.seed)?;
+    let clock = system.start_clock()?;
     let asks = wire_options(options, &plan);
-    let wire = open_wire(rt, alloc, plan.servers.as_slice(), options.local, asks, key)?;
-    Ok(run_over(rt, alloc, options, &plan, key, wire, &clock))
+    let wire = system.open_wire(plan.servers.as_slice(), options.local, asks, key)?;
+    Ok(run_over(rt, rt.alloc(), options, &plan, key, wire, &clock))
 }

@@ -7,6 +7,7 @@ use crate::books::{book_line, last_of, one_seat, push_both, push_seats};
 use crate::fields::moment;
 use crate::replies::{push_answer, push_question};
 use crate::shown::push_debug_line;
+use crate::successors::list_successors;
 use answer_cache::{CacheRefusal, Carried, ListCache, Notice, Seat, SharedCache, Stores};
 use dns_answers::{Answer, Moment};
 use dns_message::Question;
@@ -25,6 +26,7 @@ pub(crate) fn told<R: Wait>(rt: &R, output: &mut Output, call: &str, input: &str
         ),
         "seats" => generations(rt, output, input),
         "counts" => counts(rt, output, only_line(input)),
+        "successors" => list_successors(rt, output, input),
         _ => output.fail(Fault::Call),
     }
 }

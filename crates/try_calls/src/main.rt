@@ -40,6 +40,7 @@ mod schedules;
 mod selections;
 mod servers;
 mod shown;
+mod successors;
 mod uris;
 mod zones;
 

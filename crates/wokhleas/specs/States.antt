@@ -38,8 +38,8 @@ pub record Holds (seat : SeatView) (core : ResolverView) : Type 0 where
 
 -- a resolver can have these limits
 pub record AreInRange (limits : Limits) : Type 0 where
-  pub requests : (1 ≤ limits.requests) × (limits.requests ≤ 1024)
-  pub questions : (1 ≤ limits.questions) × (limits.questions ≤ 256)
+  pub requests : (1 ≤ limits.requests) × (limits.requests ≤ 65536)
+  pub questions : (1 ≤ limits.questions) × (limits.questions ≤ 4096)
 
 -- a generation: its core, and the seat of its book
 pub record GenerationView : Type 0 where

@@ -84,8 +84,8 @@ impl Generation {
         seed: [u8; 32],
         number: u64,
     ) -> Result<Generation, AllocError>
-        requires requests { (1 ≤ limits.requests) × (limits.requests ≤ 1024) }
-        requires questions { (1 ≤ limits.questions) × (limits.questions ≤ 256) }
+        requires requests { (1 ≤ limits.requests) × (limits.requests ≤ 65536) }
+        requires questions { (1 ≤ limits.questions) × (limits.questions ≤ 4096) }
         ensures { IfOk result (λ it. it ≡ begun_generation limits) }
     {
         let (book, seat) = ListCache::new(alloc);
@@ -101,8 +101,8 @@ impl Generation {
         book: ListCache,
         seat: ListSeat,
     ) -> Result<Generation, AllocError>
-        requires requests { (1 ≤ limits.requests) × (limits.requests ≤ 1024) }
-        requires questions { (1 ≤ limits.questions) × (limits.questions ≤ 256) }
+        requires requests { (1 ≤ limits.requests) × (limits.requests ≤ 65536) }
+        requires questions { (1 ≤ limits.questions) × (limits.questions ≤ 4096) }
         requires seated { IsListSeat seat }
         ensures core { IfOk result (λ it. it.core ≡ (begun_generation limits).core) }
         ensures seat { IfOk result (λ it. it.seat ≡ seat) }
@@ -127,8 +127,8 @@ impl Generation {
         seed: [u8; 32],
         number: u64,
     ) -> Result<Generation, AllocError>
-        requires requests { (1 ≤ limits.requests) × (limits.requests ≤ 1024) }
-        requires questions { (1 ≤ limits.questions) × (limits.questions ≤ 256) }
+        requires requests { (1 ≤ limits.requests) × (limits.requests ≤ 65536) }
+        requires questions { (1 ≤ limits.questions) × (limits.questions ≤ 4096) }
         ensures core { IfOk result (λ it. it.core ≡ (begun_generation limits).core) }
         ensures seat { IfOk result (λ it. CarriesOn self.now.seat it.seat) }
     {
@@ -166,7 +166,7 @@ impl Generation {
     /// How many requests are inside, also those whose outcome was not taken.
     pub(crate) fn request_count(&self) -> usize
         ensures is { result ≡ count_of self.now.core.requests }
-        ensures few { result ≤ 1024 }
+        ensures few { result ≤ 65536 }
     {
         self.core.request_count()
     }
@@ -174,7 +174,7 @@ impl Generation {
     /// How many questions are out.
     pub(crate) fn question_count(&self) -> usize
         ensures is { result ≡ count_out self.now.core.questions }
-        ensures few { result ≤ 512 }
+        ensures few { result ≤ 8192 }
     {
         self.core.question_count()
     }

@@ -8,23 +8,23 @@ use crate::handle::Handle;
 use crate::state::State;
 use crate::status::{DONE, Status};
 use sip_resolver::Limits;
-use std::alloc::Global;
+use std::alloc::{AllocError, Global};
 
 /// The limits of a generation, of which there can be two at once: each has half of the questions.
 /// None where one of the numbers is out of its range.
 fn limits_of(requests: usize, questions: usize, streams: bool) -> Option<Limits>
-    ensures requests { IfSome result (λ it. (1 ≤ it.requests) × (it.requests ≤ 1024)) }
-    ensures questions { IfSome result (λ it. (1 ≤ it.questions) × (it.questions ≤ 256)) }
+    ensures requests { IfSome result (λ it. (1 ≤ it.requests) × (it.requests ≤ 65536)) }
+    ensures questions { IfSome result (λ it. (1 ≤ it.questions) × (it.questions ≤ 4096)) }
     ensures are { IfSome result (λ it. it ≡ record {
       requests = requests;
       questions = questions / 2;
       streams = streams;
     }) }
 {
-    if requests < 1 || 1_024 < requests {
+    if requests < 1 || 65_536 < requests {
         return None;
     }
-    if questions < 2 || 512 < questions {
+    if questions < 2 || 8_192 < questions {
         return None;
     }
     Some(Limits {
@@ -36,8 +36,8 @@ fn limits_of(requests: usize, questions: usize, streams: bool) -> Option<Limits>
 
 /// Opens a resolver with these limits and this seed.
 fn open(alloc: Global, handle: &mut Handle, limits: Limits, seed: [u8; 32]) -> Result<(), Status>
-    requires requests { (1 ≤ limits.requests) × (limits.requests ≤ 1024) }
-    requires questions { (1 ≤ limits.questions) × (limits.questions ≤ 256) }
+    requires requests { (1 ≤ limits.requests) × (limits.requests ≤ 65536) }
+    requires questions { (1 ≤ limits.questions) × (limits.questions ≤ 4096) }
     ensures was_closed { OnOk result (handle.old.held.state ≡ None) }
     ensures begun { OnOk result (handle.new.held.state ≡ Some (begun_state limits)) }
     ensures unchanged { OnErr result (handle.new.held.state ≡ handle.old.held.state) }
@@ -45,14 +45,13 @@ fn open(alloc: Global, handle: &mut Handle, limits: Limits, seed: [u8; 32]) -> R
     if handle.is_open() {
         return Err(Status::Open);
     }
-    let Ok(state) = State::new(alloc, limits, seed) else {
-        return Err(Status::Memory);
-    };
-    let Ok(state) = Box::new(alloc, state) else {
-        return Err(Status::Memory);
-    };
-    handle.put(state);
-    Ok(())
+    match State::boxed(alloc, limits, seed) {
+        Ok(state) => {
+            handle.put(state);
+            Ok(())
+        }
+        Err(AllocError) => Err(Status::Memory),
+    }
 }
 
 /// See `c/wokhleas.h`.

@@ -63,8 +63,8 @@ impl Model for State {
 impl State {
     /// A resolver in which no request is, over an empty book.
     pub(crate) fn new(alloc: Global, limits: Limits, seed: [u8; 32]) -> Result<State, AllocError>
-        requires requests { (1 ≤ limits.requests) × (limits.requests ≤ 1024) }
-        requires questions { (1 ≤ limits.questions) × (limits.questions ≤ 256) }
+        requires requests { (1 ≤ limits.requests) × (limits.requests ≤ 65536) }
+        requires questions { (1 ≤ limits.questions) × (limits.questions ≤ 4096) }
         ensures { IfOk result (λ it. it ≡ begun_state limits) }
     {
         let current = Generation::new(alloc, limits, seed, 0)?;
@@ -79,6 +79,26 @@ impl State {
             told: None,
             counts: Counts::none(),
         })
+    }
+
+    /// The same in a box of its own.
+    pub(crate) fn boxed(
+        alloc: Global,
+        limits: Limits,
+        seed: [u8; 32],
+    ) -> Result<Box<State>, AllocError>
+        requires requests { (1 ≤ limits.requests) × (limits.requests ≤ 65536) }
+        requires questions { (1 ≤ limits.questions) × (limits.questions ≤ 4096) }
+        ensures { IfOk result (λ it. it.value ≡ begun_state limits) }
+    {
+        let state = State::new(alloc, limits, seed)?;
+        match Box::new(alloc, state) {
+            Ok(state) => Ok(state),
+            Err(refused) => {
+                drop(refused.value);
+                Err(AllocError)
+            }
+        }
     }
 
     /// Whether an older generation is there, and no request is inside it.
@@ -264,7 +284,7 @@ impl State {
     /// How many requests are inside the older generation.
     fn older_request_count(&self) -> usize
         ensures is { result ≡ of_older (λ one. count_of one.core.requests) self.now.draining }
-        ensures few { result ≤ 1024 }
+        ensures few { result ≤ 65536 }
     {
         match &self.draining {
             Some(draining) => draining.request_count(),
@@ -275,7 +295,7 @@ impl State {
     /// How many questions are out of the older generation.
     fn older_question_count(&self) -> usize
         ensures is { result ≡ of_older (λ one. count_out one.core.questions) self.now.draining }
-        ensures few { result ≤ 512 }
+        ensures few { result ≤ 8192 }
     {
         match &self.draining {
             Some(draining) => draining.question_count(),

@@ -1,5 +1,5 @@
 //! What is counted of a resolver.
-ghost use Rattle.std.specs.Prelude.{◌≡◌, ◌≢◌, IfOk, IfSome, OnErr, None, pos};
+ghost use Rattle.std.specs.Prelude.{◌≡◌, ◌≢◌, IfOk, IsSomeAnd, OnErr, None, pos};
 ghost use Rattle.wokhleas.specs.Stats.{AreCounted};
 
 use crate::handle::Handle;
@@ -71,7 +71,8 @@ pub struct Stats {
 
 /// What is counted of the resolver of a handle.
 fn counted(alloc: Global, handle: &mut Handle) -> Result<Stats, Status>
-    ensures counted { IfOk result (λ stats. IfSome handle.old.held.state (AreCounted stats)) }
+    ensures counted { IfOk result
+        (λ stats. IsSomeAnd handle.old.held.state (AreCounted stats)) }
     ensures closed { OnErr result (handle.old.held.state ≡ None) }
     ensures same { handle.new.held.state ≡ handle.old.held.state }
 {
@@ -89,7 +90,7 @@ pub extern "C" fn wokhleas_raw_stats(
     stats_told: &mut Stats,
 ) -> i32
     ensures counted { result ≡ pos 0
-        → IfSome handle.old.held.state (AreCounted stats_told.new) }
+        → IsSomeAnd handle.old.held.state (AreCounted stats_told.new) }
     ensures closed { result ≢ pos 0 → (handle.old.held.state ≡ None)
         × (stats_told.new ≡ stats_told.old) }
     ensures same { handle.new.held.state ≡ handle.old.held.state }

@@ -4,10 +4,12 @@ use Rattle.sip_resolver.proofs.Awaiting.{given-up-in, resent-in}
 use Rattle.sip_resolver.proofs.Ending.{ends-as, ends-not, ends-through, silence-in-time}
 use Rattle.sip_resolver.proofs.Idling.{given-up-few, given-up-limit, none-left, resent-limit}
 use Rattle.sip_resolver.proofs.Deadlines.{wait-longer}
+use Rattle.sip_resolver.proofs.Indexing.{index-given-up, index-resent}
 use Rattle.sip_resolver.proofs.Sending.{given-up-by, gives-up-not, gives-up-too, unanswered}
 use Rattle.sip_resolver.proofs.Settling.{settles-ends}
 use Rattle.sip_resolver.proofs.Weighing.{same-not, same-through}
 use Rattle.sip_resolver.specs.Idle.{IsInWait}
+use Rattle.sip_resolver.specs.QuestionTables.{id_in}
 use Rattle.sip_resolver.specs.Requests.{RequestsView}
 use Rattle.sip_resolver.specs.Sends.{IsInTime}
 use Rattle.sip_resolver.proofs.waits.next_resend.Goals as goal
@@ -15,6 +17,7 @@ use Rattle.sip_resolver.proofs.waits.next_resend.Goals as goal
 pub dues-init : goal.dues-init
 dues-init g c = record {
   fewer = fewer-not c.args.asker.now.tickets;
+  index = λ pairs it. it;
   stand = λ seat it. it;
   ends = ends-not (IsInTime c.args.asker.now.schedule c.args.asker.now.tickets c.args.now) c.args.requests.now.ended;
   few = let few = c.requires.few in omega (arith, few);
@@ -27,6 +30,11 @@ dues-init g c = record {
 pub dues-preserved : goal.dues-preserved
 dues-preserved g c = record {
   fewer = fewer-through _ _ _ c.dues.invariant.fewer (fewer-due _ _ _ _ c.due.follows.holds-at-none);
+  index = λ pairs it.
+      let due = rw c.in-Some-GaveUp.field-0-is at (rw c.in-Some-GaveUp.is at c.due.follows.holds-at-none) in
+      let is = given-up-by c.args.now c.args.sent _ _ c.dues.asker _ (c.is_overdue.ensures.over c.if-not-is_overdue.false) due in
+      index-given-up c.law_same_questions_are_equal.ensures (id_in c.dues.ids) (id_in c.remove.new.self) _ _ _ c.dues.asker _ is
+      c.remove.ensures (c.dues.invariant.fewer.pairs pairs) (c.dues.invariant.index pairs it);
   stand = λ seat it. c.settle_all.ensures.stand seat tt (c.dues.invariant.stand seat it);
   ends =
       let tickets = c.args.asker.now.tickets in
@@ -143,3 +151,19 @@ returns-then-not-is_overdue-clause-sends g c = c.dues.invariant.gives_up
 
 pub returns-then-not-is_overdue-clause-fewer : goal.returns-then-not-is_overdue-clause-fewer
 returns-then-not-is_overdue-clause-fewer g c = c.dues.invariant.fewer
+
+pub returns-in-None-clause-index : goal.returns-in-None-clause-index
+returns-in-None-clause-index g c =
+    let is = rw c.in-None.is at c.due.follows.holds-at-none in
+    rw is.0 c.dues.invariant.index
+
+pub returns-in-Some-Resend-clause-index : goal.returns-in-Some-Resend-clause-index
+returns-in-Some-Resend-clause-index g c = λ pairs it.
+    let is = rw c.in-Some-Resend.field-0-is at (rw c.in-Some-Resend.is at c.due.follows.holds-at-none) in
+    index-resent (id_in c.dues.ids) _ _ _ c.dues.asker _ is (c.dues.invariant.index pairs it)
+
+pub returns-clause-index : goal.returns-clause-index
+returns-clause-index g c = c.dues.invariant.index
+
+pub returns-then-not-is_overdue-clause-index : goal.returns-then-not-is_overdue-clause-index
+returns-then-not-is_overdue-clause-index g c = c.dues.invariant.index

@@ -7,7 +7,7 @@ returns-clause-run g c =
       | inl five ↦ inl five
       | inr run ↦ inr (record {
         plan = c.in_ok-plan.plan;
-        is_plan = c.in_ok-plan.ensures;
+        is_plan = c.in_ok-plan.ensures.plan;
         key = c.in_ok-key.key;
         is_key = c.in_ok-key.ensures.key;
         run = run;

@@ -23,8 +23,8 @@ pub returns-clause-taken : goal.returns-clause-taken
 returns-clause-taken g c =
     let few = c.law_stands_in_order.ensures.few in
     let few-too = c.law_stands_in_order-2.ensures.few in
-    let limit = c.self.invariant.few_datagrams in
-    let limit-too = c.self.invariant.few_streams in
+    let limit = c.self.invariant.bounded.few_datagrams in
+    let limit-too = c.self.invariant.bounded.few_streams in
     let all = c.draws-test.false in
     record {
       first = c.args.ids.now;

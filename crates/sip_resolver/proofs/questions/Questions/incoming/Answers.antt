@@ -7,34 +7,42 @@ use Rattle.sip_resolver.proofs.questions.Questions.incoming.Goals as goal
 pub invariant_of-self : goal.invariant_of-self
 invariant_of-self c =
     record {
-      distinct = heard-datagram (record { datagrams = c.self.inside.datagrams; streams = c.self.inside.streams }) c.incoming.new.self
-          c.incoming.result c.incoming.ensures.left c.incoming.ensures.unchanged c.self.invariant.distinct;
-      few_datagrams = heard-few c.self.inside.datagrams c.incoming.new.self c.incoming.result c.incoming.ensures.left
-          c.incoming.ensures.unchanged c.self.invariant.few_datagrams;
-      few_streams = c.self.invariant.few_streams;
-      scheduled = scheduled-before (record { datagrams = c.incoming.new.self; streams = c.self.inside.streams })
-          (record { datagrams = c.self.inside.datagrams; streams = c.self.inside.streams }) (
-            heard-schedule c.self.inside.datagrams c.incoming.new.self c.incoming.result c.incoming.ensures.left
-                c.incoming.ensures.unchanged,
-            refl,
-          )
-          c.self.invariant.scheduled;
+      bounded = record {
+        distinct = heard-datagram (record { datagrams = c.self.inside.datagrams; streams = c.self.inside.streams }) c.heard.new.asker
+            c.heard.result c.heard.ensures.left c.heard.ensures.unchanged c.self.invariant.bounded.distinct;
+        few_datagrams = heard-few c.self.inside.datagrams c.heard.new.asker c.heard.result c.heard.ensures.left
+            c.heard.ensures.unchanged c.self.invariant.bounded.few_datagrams;
+        few_streams = c.self.invariant.bounded.few_streams;
+        scheduled = scheduled-before (record { datagrams = c.heard.new.asker; streams = c.self.inside.streams })
+            (record { datagrams = c.self.inside.datagrams; streams = c.self.inside.streams }) (
+              heard-schedule c.self.inside.datagrams c.heard.new.asker c.heard.result c.heard.ensures.left
+                  c.heard.ensures.unchanged,
+              refl,
+            )
+            c.self.invariant.bounded.scheduled;
+      };
+      datagrams = c.heard.ensures.index c.self.invariant.datagrams;
+      streams = c.self.invariant.streams;
     }
 
 pub invariant_of-self-in-Stream : goal.invariant_of-self-in-Stream
 invariant_of-self-in-Stream c =
     record {
-      distinct = heard-stream (record { datagrams = c.self.inside.datagrams; streams = c.self.inside.streams })
-          c.incoming-in-Stream.new.self c.incoming-in-Stream.result c.incoming-in-Stream.ensures.left
-          c.incoming-in-Stream.ensures.unchanged c.self.invariant.distinct;
-      few_datagrams = c.self.invariant.few_datagrams;
-      few_streams = heard-few c.self.inside.streams c.incoming-in-Stream.new.self c.incoming-in-Stream.result
-          c.incoming-in-Stream.ensures.left c.incoming-in-Stream.ensures.unchanged c.self.invariant.few_streams;
-      scheduled = scheduled-before (record { datagrams = c.self.inside.datagrams; streams = c.incoming-in-Stream.new.self })
-          (record { datagrams = c.self.inside.datagrams; streams = c.self.inside.streams }) (
-            refl,
-            heard-schedule c.self.inside.streams c.incoming-in-Stream.new.self c.incoming-in-Stream.result
-                c.incoming-in-Stream.ensures.left c.incoming-in-Stream.ensures.unchanged,
-          )
-          c.self.invariant.scheduled;
+      bounded = record {
+        distinct = heard-stream (record { datagrams = c.self.inside.datagrams; streams = c.self.inside.streams })
+            c.heard-in-Stream.new.asker c.heard-in-Stream.result c.heard-in-Stream.ensures.left
+            c.heard-in-Stream.ensures.unchanged c.self.invariant.bounded.distinct;
+        few_datagrams = c.self.invariant.bounded.few_datagrams;
+        few_streams = heard-few c.self.inside.streams c.heard-in-Stream.new.asker c.heard-in-Stream.result
+            c.heard-in-Stream.ensures.left c.heard-in-Stream.ensures.unchanged c.self.invariant.bounded.few_streams;
+        scheduled = scheduled-before (record { datagrams = c.self.inside.datagrams; streams = c.heard-in-Stream.new.asker })
+            (record { datagrams = c.self.inside.datagrams; streams = c.self.inside.streams }) (
+              refl,
+              heard-schedule c.self.inside.streams c.heard-in-Stream.new.asker c.heard-in-Stream.result
+                  c.heard-in-Stream.ensures.left c.heard-in-Stream.ensures.unchanged,
+            )
+            c.self.invariant.bounded.scheduled;
+      };
+      datagrams = c.self.invariant.datagrams;
+      streams = c.heard-in-Stream.ensures.index c.self.invariant.streams;
     }

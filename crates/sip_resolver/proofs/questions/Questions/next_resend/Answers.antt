@@ -1,5 +1,6 @@
+use Rattle.std.proofs.Common.{refl}
 use Rattle.std.proofs.lemmas.List.Elements.{Contains-append_left, Contains-append_right}
-use Rattle.sip_resolver.proofs.Apart.{distinct-fewer}
+use Rattle.sip_resolver.proofs.Apart.{distinct-fewer, fewer-not}
 use Rattle.sip_resolver.proofs.Awaiting.{in-flipped}
 use Rattle.sip_resolver.proofs.Ending.{ends-as, ends-through, in-time-of}
 use Rattle.sip_resolver.proofs.Sending.{schedule-resent, scheduled-before, sends-both, sends-datagram}
@@ -7,20 +8,42 @@ use Rattle.sip_resolver.specs.Questions.{QuestionsView, schedule_of}
 use Rattle.sip_resolver.specs.Sends.{IsInTime, tickets_of}
 use Rattle.sip_resolver.proofs.questions.Questions.next_resend.Goals as goal
 
+pub invariant_of-self : goal.invariant_of-self
+invariant_of-self g c =
+    let old : QuestionsView = record { datagrams = c.self.inside.datagrams; streams = c.self.inside.streams } in
+    let new : QuestionsView = record { datagrams = c.next_resend.new.asker; streams = c.self.inside.streams } in
+    record {
+      bounded = record {
+        distinct = distinct-fewer old new c.next_resend.ensures.fewer (fewer-not c.self.inside.streams.tickets)
+            c.self.invariant.bounded.distinct;
+        few_datagrams = rw c.next_resend.ensures.limit c.self.invariant.bounded.few_datagrams;
+        few_streams = c.self.invariant.bounded.few_streams;
+        scheduled = scheduled-before new old
+            (schedule-resent _ _ old.datagrams new.datagrams c.next_resend.result c.next_resend.ensures.sends, refl)
+            c.self.invariant.bounded.scheduled;
+      };
+      datagrams = c.next_resend.ensures.index c.self.invariant.bounded.distinct.datagrams c.self.invariant.datagrams;
+      streams = c.self.invariant.streams;
+    }
+
 pub invariant_of-self-2 : goal.invariant_of-self-2
 invariant_of-self-2 g c =
     record {
-      distinct = distinct-fewer (record { datagrams = c.self.inside.datagrams; streams = c.self.inside.streams })
-          (record { datagrams = c.next_resend.new.asker; streams = c.next_resend-2.new.asker }) c.next_resend.ensures.fewer
-          c.next_resend-2.ensures.fewer c.self.invariant.distinct;
-      few_datagrams = rw c.next_resend.ensures.limit c.self.invariant.few_datagrams;
-      few_streams = rw c.next_resend-2.ensures.limit c.self.invariant.few_streams;
-      scheduled = scheduled-before (record { datagrams = c.next_resend.new.asker; streams = c.next_resend-2.new.asker })
-          (record { datagrams = c.self.inside.datagrams; streams = c.self.inside.streams }) (
-            schedule-resent _ _ c.self.inside.datagrams c.next_resend.new.asker c.next_resend.result c.next_resend.ensures.sends,
-            schedule-resent _ _ c.self.inside.streams c.next_resend-2.new.asker c.next_resend-2.result c.next_resend-2.ensures.sends,
-          )
-          c.self.invariant.scheduled;
+      bounded = record {
+        distinct = distinct-fewer (record { datagrams = c.self.inside.datagrams; streams = c.self.inside.streams })
+            (record { datagrams = c.next_resend.new.asker; streams = c.next_resend-2.new.asker }) c.next_resend.ensures.fewer
+            c.next_resend-2.ensures.fewer c.self.invariant.bounded.distinct;
+        few_datagrams = rw c.next_resend.ensures.limit c.self.invariant.bounded.few_datagrams;
+        few_streams = rw c.next_resend-2.ensures.limit c.self.invariant.bounded.few_streams;
+        scheduled = scheduled-before (record { datagrams = c.next_resend.new.asker; streams = c.next_resend-2.new.asker })
+            (record { datagrams = c.self.inside.datagrams; streams = c.self.inside.streams }) (
+              schedule-resent _ _ c.self.inside.datagrams c.next_resend.new.asker c.next_resend.result c.next_resend.ensures.sends,
+              schedule-resent _ _ c.self.inside.streams c.next_resend-2.new.asker c.next_resend-2.result c.next_resend-2.ensures.sends,
+            )
+            c.self.invariant.bounded.scheduled;
+      };
+      datagrams = c.next_resend.ensures.index c.self.invariant.bounded.distinct.datagrams c.self.invariant.datagrams;
+      streams = c.next_resend-2.ensures.index c.self.invariant.bounded.distinct.streams c.self.invariant.streams;
     }
 
 pub returns-clause-stand : goal.returns-clause-stand
@@ -45,7 +68,7 @@ pub returns-clause-ends : goal.returns-clause-ends
 returns-clause-ends g c =
     let old : QuestionsView = record { datagrams = c.self.inside.datagrams; streams = c.self.inside.streams } in
     let kind = IsInTime (schedule_of old) (tickets_of old) c.args.now in
-    let streams-end = rw c.self.invariant.scheduled.0 at c.next_resend-2.ensures.ends in
+    let streams-end = rw c.self.invariant.bounded.scheduled.0 at c.next_resend-2.ensures.ends in
     rw (← c.self.view_is)
     (ends-through kind _ _ _
     (ends-as _ kind
