@@ -6,3 +6,4 @@ pub mod Orders
 pub mod Keeping
 pub mod Places
 pub mod Out
+pub mod Crossing

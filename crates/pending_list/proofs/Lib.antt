@@ -10,3 +10,4 @@ pub mod Slots
 pub mod Tables
 pub mod Values
 pub mod Walking
+pub mod Crosses

@@ -10,7 +10,7 @@ ghost use Rattle.pending_list.specs.contracts.node.Node.{the_row as node_row};
 use crate::node::Node;
 use crate::raw_box::RawBox;
 use std::alloc::{AllocError, Global};
-use std::marker::{Model, PhantomData};
+use std::marker::{Model, PhantomData, Send};
 
 /// A pointer to a node. It owns nothing.
 pub struct Link<E> {
@@ -29,6 +29,8 @@ impl<E> Clone for Link<E> {
 
 impl<E> Copy for Link<E> {}
 
+unsafe impl<E> Send for Link<E> {}
+
 /// The owner of nodes, each in a box of its own. It takes no space: which nodes it owns, where each
 /// lies, and their order are known to the contracts alone.
 pub struct Nodes<E> {
@@ -41,6 +43,9 @@ impl<E> Model for Nodes<E> {
 
     ghost also_shares = { λ n _ κ. cells_lent (node_row E.row) n.cells κ };
 }
+
+// What it owns goes with it.
+unsafe impl<E: Send> Send for Nodes<E> {}
 
 impl<E> Nodes<E> {
     ghost use Rattle.pending_list.specs.NodeLends.{lends_node};

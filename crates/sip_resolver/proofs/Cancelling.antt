@@ -1,5 +1,5 @@
 -- What is left of the requests and the questions after a request was cancelled.
-use Rattle.std.proofs.Common.{false, ◌+◌, ◌<◌, ◌∷◌, ◌++◌, [], ap, ◌∙◌, ◌≡◌, inl, inr, ℕ, ◌≤◌, Bool, true, not, nat_eq, List, get_or, length, map, Option, refl, sym, subst, arith}
+use Rattle.std.proofs.Common.{false, ◌+◌, ◌<◌, ◌∷◌, ◌++◌, [], ap, ◌∙◌, ◌≡◌, inl, inr, ℕ, ◌≤◌, Bool, true, not, nat_eq, List, get_or, length, map, Option, refl, sym, subst}
 use Rattle.std.specs.List.{All, Contains, filter, find}
 use Rattle.std.specs.Option.{IsSome}
 use Rattle.std.proofs.lemmas.List.{append-nil}

@@ -31,3 +31,4 @@ pub mod Expiring
 pub mod InTime
 mod Working
 mod Drives
+pub mod Crossing

@@ -1,11 +1,11 @@
 -- The queue of those that wait, over slots.
-use Rattle.std.proofs.Common.{◌≡◌, ◌≢◌, ◌↔◌, ℕ, ◌<◌, ◌≤◌, ◌+◌, ◌-◌, Bool, true, List, [], ◌∷◌, ◌++◌, Some, None, Option, length, map, set, take, drop, refl, sym, ap, ◌∙◌, arith}
+use Rattle.std.proofs.Common.{◌≡◌, ◌≢◌, ◌↔◌, ℕ, ◌<◌, ◌≤◌, ◌+◌, ◌-◌, List, [], ◌∷◌, ◌++◌, Some, None, Option, length, map, set, take, drop, refl, sym, ap, ◌∙◌, arith}
 use Rattle.std.specs.Bool.{IsTrue}
-use Rattle.std.specs.List.{All, Contains, slice_get}
+use Rattle.std.specs.List.{All, Contains}
 use Rattle.std.specs.Option.{MatchOption, is_some}
-use Rattle.std.proofs.lemmas.List.{length-append, length-set, length_push, take-append-le, take-set, take_all}
+use Rattle.std.proofs.lemmas.List.{length-append, length-set, length_push, take-append-le, take_all}
 use Rattle.std.proofs.lemmas.List.Elements.{All-contains, All-map, filter_map-append}
-use Rattle.std.proofs.lemmas.Option.{same_Some, slice_get_within}
+use Rattle.std.proofs.lemmas.Option.{same_Some}
 use Rattle.sip_resolver.proofs.Queues.{found-there}
 use Rattle.sip_resolver.proofs.Slotting.{emptied, items-left, items-parts, none-for, none-still}
 use Rattle.sip_resolver.proofs.Waiters.{none-awaited, there-awaited}

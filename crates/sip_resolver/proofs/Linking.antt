@@ -1,6 +1,6 @@
 -- The index of the slots of requests that wait, as slots come and become empty.
 use Rattle.std.proofs.Common.{◌≡◌, ◌⊎◌, ℕ, suc, zero, ◌<◌, ◌≤◌, ◌+◌, inl, inr, List, [], ◌∷◌, ◌++◌, Some, None, Option, length, map, get_or, set, ◌-◌, refl, sym, ap, ◌∙◌, arith}
-use Rattle.std.specs.List.{All, slice_get, slice_set}
+use Rattle.std.specs.List.{All, slice_get}
 use Rattle.std.specs.Option.{option_map}
 use Rattle.std.proofs.lemmas.Bool.{cases_eq, cases_lt}
 use Rattle.std.proofs.lemmas.List.{get_or-set_other, get_or-set_same, get_or_past, length-map, length_push, map-append, map-set, set-get_or}

@@ -1,14 +1,13 @@
 -- The numbers of the requests inside, as a filter counts them.
 use Rattle.std.proofs.Common.{◌≡◌, ◌<◌, ◌≤◌, ◌+◌, ℕ, nat_eq, Bool, true, false, if◌then◌else◌, List, [], ◌∷◌, length, map, bit_and, refl, sym, ap, ◌∙◌, arith, eq-eqb}
-use Rattle.std.specs.List.{All, Contains, slice_index_or, sum_by}
+use Rattle.std.specs.List.{All, Contains, sum_by}
 use Rattle.std.proofs.lemmas.Grind.{get_or_default_zero}
 use Rattle.std.proofs.lemmas.Nat.{and_le_r}
 use Rattle.std.proofs.lemmas.List.Sums.{get_or-le-sum_by, sum_by-cons, sum_by-le}
 use Rattle.sip_resolver.proofs.Queues.{only-last}
 use Rattle.sip_resolver.specs.NumberFilters.{Counts, FilterView, count_at, is_of}
-use Rattle.sip_resolver.specs.Outcomes.{Ended}
 use Rattle.sip_resolver.specs.Requests.{RequestsView, count_of, number_of_ended, number_of_waiting, numbers_of, weigh_numbers}
-use Rattle.sip_resolver.specs.Tasks.{TaskView, WaitingView}
+use Rattle.sip_resolver.specs.Tasks.{TaskView}
 
 -- what is counted by one total is by another that agrees
 pub counts-as : (one other : (ℕ → ℕ) → ℕ) (it : FilterView) → ((h : ℕ → ℕ) → one h ≡ other h) → Counts one it → Counts other it

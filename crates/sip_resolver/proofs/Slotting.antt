@@ -1,9 +1,9 @@
 -- Slots, and the requests that wait in them.
-use Rattle.std.proofs.Common.{◌≡◌, ◌≢◌, ◌⊎◌, nat_eq, ℕ, suc, zero, ◌<◌, ◌≤◌, ◌+◌, Bool, true, false, if◌then◌else◌, inl, inr, List, [], ◌∷◌, ◌++◌, Some, None, Option, length, map, get_or, set, take, drop, refl, sym, ap, ◌∙◌, drop-cons, add-one, eq-eqb, arith, rules}
-use Rattle.std.specs.List.{All, Contains, cons_option, filter, filter_map, slice_get, sum_by}
+use Rattle.std.proofs.Common.{◌≡◌, ◌≢◌, ◌⊎◌, nat_eq, ℕ, suc, zero, ◌<◌, ◌≤◌, ◌+◌, Bool, true, false, if◌then◌else◌, inl, inr, List, [], ◌∷◌, ◌++◌, Some, None, Option, length, set, take, drop, refl, sym, ap, ◌∙◌, drop-cons, add-one, eq-eqb, arith, rules}
+use Rattle.std.specs.List.{All, cons_option, filter, filter_map, slice_get, sum_by}
 use Rattle.std.specs.Option.{is_some}
 use Rattle.std.proofs.lemmas.Bool.{and_parts, cases_eq}
-use Rattle.std.proofs.lemmas.List.{append-nil, set_split, take-append-drop, take_all, take_more}
+use Rattle.std.proofs.lemmas.List.{append-nil, set_split, take-append-drop, take_more}
 use Rattle.std.proofs.lemmas.List.Elements.{All-push, Contains-append_right, filter_map-append}
 use Rattle.std.proofs.lemmas.List.Sums.{sum_by-cons, sum_by-le}
 use Rattle.std.proofs.lemmas.Option.{get_or_from_slice_get, same_Some, slice_get_within}

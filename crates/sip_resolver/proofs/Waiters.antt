@@ -1,8 +1,7 @@
 -- Those that wait for one reply, among all that wait.
-use Rattle.std.proofs.Common.{◌≡◌, ◌≢◌, nat_eq, ℕ, ◌+◌, ◌<◌, ◌≤◌, ◌||◌, Bool, true, false, List, [], ◌∷◌, ◌++◌, Option, Some, None, length, take, drop, refl, sym, ap, ◌∙◌, eq-eqb, drop-cons, add-one, rules, arith}
+use Rattle.std.proofs.Common.{◌≡◌, ◌≢◌, nat_eq, ℕ, ◌<◌, ◌≤◌, ◌||◌, Bool, true, false, List, [], ◌∷◌, ◌++◌, Some, length, refl, sym, ap, ◌∙◌, eq-eqb, rules, arith}
 use Rattle.std.specs.List.{All, remove, slice_get}
-use Rattle.std.specs.Option.{MatchOption, is_some}
-use Rattle.std.proofs.lemmas.List.{length-append, length-take-le, take-append-drop, take_all, take_more}
+use Rattle.std.proofs.lemmas.List.{length-append}
 use Rattle.std.proofs.lemmas.List.Elements.{All-cons, All-head, All-tail, filter-append}
 use Rattle.std.proofs.lemmas.Option.{get_or_from_slice_get}
 use Rattle.std.proofs.Math.Seq.{get_or-append_seam}

@@ -1,6 +1,6 @@
 -- The requests that wait for replies, in slots. No public clause cites this module.
 use Rattle.std.specs.Prelude.{◌≡◌, ◌==◌, ◌&&◌, ◌<◌, ◌≤◌, ◌+◌, ℕ, Bool, false, List, [], ◌∷◌, ◌++◌, Option, Some, None, bit_and, length, map, slice_get, slice_index_or, slice_set, take}
-use Rattle.std.specs.List.{All, filter, filter_map}
+use Rattle.std.specs.List.{All, filter_map}
 use Rattle.std.specs.Option.{is_some}
 use Rattle.sip_resolver.specs.Queues.{Queued}
 use Rattle.sip_resolver.specs.Requests.{waiting_for}

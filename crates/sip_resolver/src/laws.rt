@@ -1,4 +1,5 @@
 //! Laws of resolvers. A call of one does nothing; its contract states the law.
+ghost use denote.Param.Send.{IsSend};
 ghost use Rattle.std.specs.Prelude.{◌<◌, ◌≤◌, ℕ, List, Some};
 ghost use Rattle.answer_cache.specs.Seats.{GoesOn, SeatView, StoresNothing};
 ghost use Rattle.sip_resolver.specs.Dues.{AreAsBefore, AreDealtWith, IsOneDue, PollsAll};
@@ -9,6 +10,7 @@ ghost use Rattle.sip_resolver.specs.Resolvers.{ResolverView};
 ghost use Rattle.sip_resolver.specs.Requests.{RequestsView, Stand};
 ghost use Rattle.sip_resolver.specs.Runs.{AreKept, Event, Runs};
 ghost use Rattle.sip_resolver.specs.Works.{Works};
+ghost use Rattle.sip_resolver.specs.contracts.resolver.Resolver.{the_row};
 
 use crate::facts::Facts;
 use crate::ids::Ids;
@@ -58,4 +60,12 @@ pub fn law_requests_stand_as_seats_go_on<F: Facts>()
         → Works F.gives F.shows old new }
     ensures works { (first old new : SeatView) → GoesOn old new → StoresNothing old new
         → Works F.gives F.shows first old → Works F.gives F.shows first new }
+{}
+
+/// A resolver may go to another thread (`Send`), where its book, its facts and its ids may.
+///
+/// The prover does not find this by itself: who sends one to a thread answers that goal with the
+/// lemma `resolver_send`.
+pub fn law_may_change_threads<B, F, I>()
+    ensures { IsSend B.row → IsSend F.row → IsSend I.row → IsSend (the_row B.row F.row I.row) }
 {}

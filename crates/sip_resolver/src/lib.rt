@@ -99,8 +99,8 @@ pub use id_streams::{law_id_streams_are_apart, random_ids};
 pub use ids::{CountingIds, Ids, RandomIds};
 pub use key::random_key;
 pub use laws::{
-    law_questions_are_dealt_with, law_requests_are_awaited, law_requests_are_kept,
-    law_requests_stand_as_seats_go_on,
+    law_may_change_threads, law_questions_are_dealt_with, law_requests_are_awaited,
+    law_requests_are_kept, law_requests_stand_as_seats_go_on,
 };
 pub use outcome::{Outcome, Resolved, TargetList};
 pub use queue::least_of;

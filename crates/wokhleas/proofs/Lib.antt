@@ -1,10 +1,6 @@
-pub mod Cancelling
-pub mod Choosing
+pub mod Crossing
+pub mod Handling
 pub mod HeldSteps
 pub mod LooseValues
 pub mod Receiving
-pub mod Renewing
-pub mod Resting
-pub mod Seating
-pub mod Soundness
-pub mod Transmitting
+pub mod Telling

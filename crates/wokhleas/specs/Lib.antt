@@ -1,9 +1,6 @@
-pub mod Clocks
 pub mod Handles
 pub mod Numbers
 pub mod Requests
-pub mod Rests
-pub mod States
-pub mod Stats
 pub mod Told
 pub mod Tries
+pub mod Wires

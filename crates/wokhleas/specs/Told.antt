@@ -1,5 +1,5 @@
 -- What C is told of a request that ended, in the numbers of its header.
-use Rattle.std.specs.Prelude.{ℕ, List, [], ◌∷◌, ◌++◌, length, Option, Some, None, slice_get}
+use Rattle.std.specs.Prelude.{◌≡◌, ℕ, List, [], ◌∷◌, ◌++◌, length, Option, Some, None, option_and_then, slice_get}
 use Rattle.std.specs.Option.{option_map}
 use Rattle.dns_answers.specs.declared.refusal.ReplyRefusal.{ReplyRefusal}
 use Rattle.dns_answers.specs.declared.refusal.ReplyRefusal.TheVariants.{NotReply, OtherQuestion, Truncated, ServerFault}
@@ -10,6 +10,7 @@ use Rattle.ip_text.specs.declared.address.Address.TheVariants.{V4, V6}
 use Rattle.sip_resolver.specs.Outcomes.{Ended}
 use Rattle.sip_resolver.specs.declared.outcome.Outcome.{Outcome}
 use Rattle.sip_resolver.specs.declared.outcome.Outcome.TheVariants.{Targets, Refused, NoAnswer, NoServer, BadReply, Memory}
+use Rattle.rolling_resolver.specs.Rolling.{RollingView, Tells}
 use Rattle.sip_selection.specs.declared.reason.Reason.{Reason}
 use Rattle.sip_selection.specs.declared.reason.Reason.TheVariants.{TransportUnsupported, TransportNotSecure, NotOffered, NoAddress}
 use Rattle.sip_selection.specs.declared.target.Target.{Target}
@@ -100,3 +101,13 @@ target_told target = record {
 -- the target at an index of an outcome
 abbrev pub target_at : Ended → ℕ → Option ToldTarget
 target_at ended index = option_map target_told (slice_get (targets_of ended.outcome) index)
+
+-- the next request that ended is told so
+pub record IsTold (outcome : ToldOutcome) (old new : RollingView) : Type 0 where
+  pub tells : Tells old new
+  pub are : outcome ≡ outcome_told tells.ended
+
+-- the target at an index of the outcome that was told last
+abbrev pub target_told_at : ℕ → Option RollingView → Option ToldTarget
+target_told_at index state =
+    option_and_then (λ it. option_and_then (λ ended. target_at ended index) it.told) state

@@ -3,8 +3,8 @@ ghost use Rattle.std.specs.Prelude.{◌≡◌, Some, None, IfOk, OnErr, is_some}
 
 use crate::held::Held;
 use crate::loose::Loose;
-use crate::state::State;
 use crate::status::Status;
+use rolling_resolver::RollingResolver;
 use std::alloc::Global;
 
 /// What C has of a resolver: one that is all zeros is closed.
@@ -25,9 +25,9 @@ impl Handle {
     }
 
     /// Takes the resolver out, if it is open. Then it is closed.
-    pub(crate) fn take(&mut self, alloc: Global) -> Result<Box<State>, Status>
+    pub(crate) fn take(&mut self, alloc: Global) -> Result<Box<RollingResolver>, Status>
         ensures closed { self.new.held.state ≡ None }
-        ensures taken { IfOk result (λ state. self.old.held.state ≡ Some state.value) }
+        ensures taken { IfOk result (λ resolver. self.old.held.state ≡ Some resolver.value) }
         ensures none { OnErr result (self.old.held.state ≡ None) }
     {
         if !self.is_open {
@@ -39,10 +39,10 @@ impl Handle {
     }
 
     /// Puts a resolver in. Then it is open.
-    pub(crate) fn put(&mut self, state: Box<State>)
-        ensures { self.new.held.state ≡ Some state.value }
+    pub(crate) fn put(&mut self, resolver: Box<RollingResolver>)
+        ensures { self.new.held.state ≡ Some resolver.value }
     {
-        self.held = Held::of(Loose::of(state));
+        self.held = Held::of(Loose::of(resolver));
         self.is_open = true;
     }
 }

@@ -1,30 +1,33 @@
 //! A resolver's box, as a pointer that C may hold.
 ghost use Rattle.std.specs.Prelude.{◌≡◌, Option, Some, None, IsSome};
-ghost use Rattle.wokhleas.specs.States.{StateView};
+ghost use Rattle.rolling_resolver.specs.Rolling.{RollingView};
 
 use crate::loose::Loose;
-use crate::state::State;
+use rolling_resolver::RollingResolver;
 use std::alloc::Global;
-use std::marker::Model;
+use std::marker::{Model, Send};
 
 /// The box of a resolver, or none. The pointer's type is one that C knows.
 #[repr(C)]
 #[derive(Drop)]
 pub struct Held {
     at: *mut u8,
-    pub ghost state: { Option StateView },
+    pub ghost state: { Option RollingView },
 }
 
 impl Model for Held {
     ghost use Rattle.wokhleas.specs.Handles.{boxed_as};
-    ghost use Rattle.wokhleas.specs.contracts.state.State.{the_row as state_row};
+    ghost use Rattle.rolling_resolver.specs.contracts.resolver.RollingResolver.{the_row as resolver_row};
 
-    ghost also_owns = { λ it. boxed_as state_row it.state it.at };
+    ghost also_owns = { λ it. boxed_as resolver_row it.state it.at };
 }
+
+// The box goes with it.
+unsafe impl Send for Held {}
 
 impl Held {
     /// This box.
-    pub(crate) fn of(loose: Loose<State, Global>) -> Held
+    pub(crate) fn of(loose: Loose<RollingResolver, Global>) -> Held
         ensures { result.state ≡ Some loose.value }
     {
         let Loose { at, alloc: _ } = loose;
@@ -40,11 +43,11 @@ impl Held {
     }
 
     /// The box that it is.
-    pub(crate) fn into_box(self, alloc: Global) -> Box<State>
+    pub(crate) fn into_box(self, alloc: Global) -> Box<RollingResolver>
         requires { IsSome self.state }
         ensures { self.state ≡ Some result.value }
     {
         let Held { at } = self;
-        unsafe { Box::from_raw(alloc, at as *mut State) }
+        unsafe { Box::from_raw(alloc, at as *mut RollingResolver) }
     }
 }

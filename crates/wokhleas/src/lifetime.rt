@@ -1,12 +1,12 @@
 //! A resolver begins and ends.
 ghost use Rattle.std.specs.Prelude.{◌≡◌, ◌≢◌, ◌≤◌, ◌/◌, [], None, Some, IfSome, OnErr, OnOk, pos};
 ghost use Rattle.sip_resolver.specs.declared.resolver.Limits as limits;
-ghost use Rattle.wokhleas.specs.Rests.{AllRestOn};
-ghost use Rattle.wokhleas.specs.States.{AreInRange, begun_state};
+ghost use Rattle.rolling_resolver.specs.Rests.{AllRestOn};
+ghost use Rattle.rolling_resolver.specs.Rolling.{AreInRange, begun_rolling};
 
 use crate::handle::Handle;
-use crate::state::State;
 use crate::status::{DONE, Status};
+use rolling_resolver::RollingResolver;
 use sip_resolver::Limits;
 use std::alloc::{AllocError, Global};
 
@@ -39,15 +39,16 @@ fn open(alloc: Global, handle: &mut Handle, limits: Limits, seed: [u8; 32]) -> R
     requires requests { (1 ≤ limits.requests) × (limits.requests ≤ 65536) }
     requires questions { (1 ≤ limits.questions) × (limits.questions ≤ 4096) }
     ensures was_closed { OnOk result (handle.old.held.state ≡ None) }
-    ensures begun { OnOk result (handle.new.held.state ≡ Some (begun_state limits)) }
+    ensures begun { OnOk result (handle.new.held.state ≡ Some (begun_rolling limits)) }
+    ensures answers { OnOk result (IfSome handle.new.held.state (λ state. AllRestOn [] state)) }
     ensures unchanged { OnErr result (handle.new.held.state ≡ handle.old.held.state) }
 {
     if handle.is_open() {
         return Err(Status::Open);
     }
-    match State::boxed(alloc, limits, seed) {
-        Ok(state) => {
-            handle.put(state);
+    match RollingResolver::boxed(alloc, limits, seed) {
+        Ok(resolver) => {
+            handle.put(resolver);
             Ok(())
         }
         Err(AllocError) => Err(Status::Memory),
@@ -67,7 +68,7 @@ pub extern "C" fn wokhleas_raw_open(
     ensures was_closed { result ≡ pos 0 → handle.old.held.state ≡ None }
     ensures begun { result ≡ pos 0 → (limits : limits.Limits) × AreInRange limits
         × (limits.requests ≡ requests) × (limits.questions ≡ questions / 2)
-        × (limits.streams ≡ streams) × (handle.new.held.state ≡ Some (begun_state limits)) }
+        × (limits.streams ≡ streams) × (handle.new.held.state ≡ Some (begun_rolling limits)) }
     ensures answers { result ≡ pos 0
         → IfSome handle.new.held.state (λ state. AllRestOn [] state) }
     ensures unchanged { result ≢ pos 0 → handle.new.held.state ≡ handle.old.held.state }

@@ -1,13 +1,16 @@
 //! What became of requests.
-ghost use Rattle.std.specs.Prelude.{◌≡◌, ◌≢◌, None, Some, IfOk, IfSome, OnErr, pos};
-ghost use Rattle.wokhleas.specs.Rests.{KeepsAnswers, TellsOf};
-ghost use Rattle.wokhleas.specs.States.{GoesBy, HasNone, StaysBy, Tells, target_told_at};
+ghost use Rattle.std.specs.Prelude.{◌≡◌, ◌≢◌, None, Some, IfNone, IfOk, IfSome, IsSome, OnErr, OnOk, pos, option_and_then};
+ghost use Rattle.rolling_resolver.specs.Rests.{KeepsAnswers, TellsOf};
+ghost use Rattle.rolling_resolver.specs.Rolling.{HasNone};
+ghost use Rattle.wokhleas.specs.Handles.{GoesBy, StaysBy};
+ghost use Rattle.wokhleas.specs.Told.{IsTold, target_told_at};
+ghost use Rattle.wokhleas.specs.Told as spec;
 
 use crate::handle::Handle;
-use crate::state::State;
 use crate::status::{DONE, Status};
 use crate::told::{ToldOutcome, ToldTarget, question_of, target_at, told_outcome};
-use dns_message::law_same_questions_are_equal;
+use dns_message::Question;
+use rolling_resolver::RollingResolver;
 use std::alloc::Global;
 
 /// A question, in numbers.
@@ -20,20 +23,43 @@ pub struct ToldQuestion {
     pub type_number: u16,
 }
 
+/// Goes to the next outcome of a resolver.
+fn tell_next(resolver: &mut RollingResolver) -> Option<ToldOutcome>
+    ensures told { IfSome result (λ outcome. IsTold outcome resolver.old resolver.new) }
+    ensures chosen { IsSome result → TellsOf resolver.old resolver.new }
+    ensures answers { KeepsAnswers resolver.old resolver.new }
+    ensures unchanged { IfNone result (resolver.new ≡ resolver.old) }
+    ensures none { IfNone result (HasNone resolver.old) }
+{
+    if !resolver.tell_next() {
+        return None;
+    }
+    Some(told_outcome(resolver.told()?))
+}
+
 /// The next outcome of a resolver.
 fn next(alloc: Global, handle: &mut Handle) -> Result<ToldOutcome, Status>
     ensures told { IfOk result
-        (λ told. GoesBy (Tells told) handle.old.held.state handle.new.held.state) }
+        (λ told. GoesBy (IsTold told) handle.old.held.state handle.new.held.state) }
+    ensures chosen { OnOk result (GoesBy TellsOf handle.old.held.state handle.new.held.state) }
+    ensures answers { StaysBy KeepsAnswers handle.old.held.state handle.new.held.state }
     ensures unchanged { OnErr result (handle.new.held.state ≡ handle.old.held.state) }
     ensures none { OnErr result (IfSome handle.old.held.state (λ state. HasNone state)) }
 {
-    let mut state = handle.take(alloc)?;
-    let told = state.next_told();
-    handle.put(state);
+    let mut resolver = handle.take(alloc)?;
+    let told = tell_next(&mut resolver);
+    handle.put(resolver);
     match told {
         Some(told) => Ok(told),
         None => Err(Status::Nothing),
     }
+}
+
+/// A target of the outcome that was told last.
+fn told_target(resolver: &RollingResolver, index: usize) -> Option<ToldTarget>
+    ensures { result ≡ target_told_at index (Some resolver.now) }
+{
+    target_at(resolver.told()?, index)
 }
 
 /// A target of the outcome that was told last.
@@ -42,18 +68,30 @@ fn target(alloc: Global, handle: &mut Handle, index: usize) -> Result<ToldTarget
     ensures none { OnErr result (target_told_at index handle.old.held.state ≡ None) }
     ensures same { handle.new.held.state ≡ handle.old.held.state }
 {
-    let state = handle.take(alloc)?;
-    let told = state.told_target(index);
-    handle.put(state);
+    let resolver = handle.take(alloc)?;
+    let told = told_target(&resolver, index);
+    handle.put(resolver);
     match told {
         Some(told) => Ok(told),
         None => Err(Status::Nothing),
     }
 }
 
+/// The question whose answer the outcome that was told last lacks.
+fn told_question(resolver: &RollingResolver) -> Option<&Question>
+    ensures { IfSome result
+        (λ question. IfSome resolver.now.told
+        (λ ended. Some question.now ≡ spec.question_of ended.outcome)) }
+{
+    question_of(resolver.told()?)
+}
+
 /// Writes the name that a question asks about into a buffer.
-fn write_question(state: &State, name: &mut [u8]) -> Result<ToldQuestion, Status> {
-    let Some(question) = state.told_question() else {
+fn write_question(
+    resolver: &RollingResolver,
+    name: &mut [u8],
+) -> Result<ToldQuestion, Status> {
+    let Some(question) = told_question(resolver) else {
         return Err(Status::Nothing);
     };
     let Ok(text) = question.name.text() else {
@@ -74,9 +112,9 @@ fn write_question(state: &State, name: &mut [u8]) -> Result<ToldQuestion, Status
 fn question(alloc: Global, handle: &mut Handle, name: &mut [u8]) -> Result<ToldQuestion, Status>
     ensures same { handle.new.held.state ≡ handle.old.held.state }
 {
-    let state = handle.take(alloc)?;
-    let told = write_question(&state, name);
-    handle.put(state);
+    let resolver = handle.take(alloc)?;
+    let told = write_question(&resolver, name);
+    handle.put(resolver);
     told
 }
 
@@ -88,15 +126,14 @@ pub extern "C" fn wokhleas_raw_next(
     outcome: &mut ToldOutcome,
 ) -> i32
     ensures told { result ≡ pos 0
-        → GoesBy (Tells outcome.new) handle.old.held.state handle.new.held.state }
-    ensures rests { result ≡ pos 0
+        → GoesBy (IsTold outcome.new) handle.old.held.state handle.new.held.state }
+    ensures chosen { result ≡ pos 0
         → GoesBy TellsOf handle.old.held.state handle.new.held.state }
     ensures unchanged { result ≢ pos 0 → (handle.new.held.state ≡ handle.old.held.state)
         × (outcome.new ≡ outcome.old) }
     ensures none { result ≢ pos 0 → IfSome handle.old.held.state (λ state. HasNone state) }
     ensures answers { StaysBy KeepsAnswers handle.old.held.state handle.new.held.state }
 {
-    law_same_questions_are_equal();
     match next(alloc, handle) {
         Ok(told) => {
             *outcome = told;

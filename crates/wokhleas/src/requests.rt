@@ -2,15 +2,16 @@
 ghost use Rattle.std.specs.Prelude.{◌≡◌, ◌≢◌, IfSome, OnErr, OnOk, pos};
 ghost use Rattle.sip_selection.specs.declared.request.Request.TheVariants.{Uri};
 ghost use Rattle.sip_uri.specs.Views.{IsUriView, uri_of};
-ghost use Rattle.wokhleas.specs.Requests.{IsSubmitted};
-ghost use Rattle.wokhleas.specs.Rests.{KeepsAnswers};
-ghost use Rattle.wokhleas.specs.States.{Cancels, GoesBy, HasRequest, Renews, StaysBy, TakesIn};
+ghost use Rattle.rolling_resolver.specs.Rests.{KeepsAnswers};
+ghost use Rattle.rolling_resolver.specs.Rolling.{HasRequest, Renews, TakesIn};
+ghost use Rattle.wokhleas.specs.Handles.{GoesBy, StaysBy};
+ghost use Rattle.wokhleas.specs.Requests.{Cancels, IsSubmitted};
 
-use crate::clock::instant_of;
 use crate::handle::Handle;
 use crate::numbers::caps_of;
 use crate::status::{DONE, Status};
 use dns_answers::Moment;
+use rolling_resolver::instant_of;
 use sip_selection::{Caps, Request};
 use sip_uri::{UriParts, view_uri, view_via};
 use std::alloc::Global;
@@ -43,9 +44,9 @@ fn submit(
     ensures renews { StaysBy Renews handle.old.held.state handle.new.held.state }
     ensures answers { StaysBy KeepsAnswers handle.old.held.state handle.new.held.state }
 {
-    let mut state = handle.take(alloc)?;
-    let submitted = state.submit(alloc, number, request, caps, until);
-    handle.put(state);
+    let mut resolver = handle.take(alloc)?;
+    let submitted = resolver.submit(alloc, number, request, caps, until);
+    handle.put(resolver);
     match submitted {
         Ok(()) => Ok(()),
         Err(refusal) => Err(Status::from(refusal)),
@@ -132,10 +133,11 @@ fn cancel(alloc: Global, handle: &mut Handle, number: u64) -> Result<(), Status>
     ensures unchanged { OnErr result (handle.new.held.state ≡ handle.old.held.state) }
     ensures none { OnErr result
         (IfSome handle.old.held.state (λ state. HasRequest number state → ⊥)) }
+    ensures answers { StaysBy KeepsAnswers handle.old.held.state handle.new.held.state }
 {
-    let mut state = handle.take(alloc)?;
-    let found = state.cancel(number);
-    handle.put(state);
+    let mut resolver = handle.take(alloc)?;
+    let found = resolver.cancel(number);
+    handle.put(resolver);
     if found { Ok(()) } else { Err(Status::Nothing) }
 }
 

@@ -3,10 +3,10 @@ ghost use Rattle.std.specs.Prelude.{◌≡◌, None, Some, MatchOption};
 ghost use Rattle.ip_text.specs.declared.address.Address.TheVariants as address;
 ghost use Rattle.wokhleas.specs.Told as spec;
 
-use crate::generation::Ended;
 use crate::numbers::{number_of, number_of_reason};
 use dns_answers::ReplyRefusal;
 use dns_message::Question;
+use rolling_resolver::Ended;
 use sip_resolver::Outcome;
 use sip_selection::Target;
 use sip_uri::Address;

@@ -3,15 +3,16 @@ ghost use Rattle.std.specs.Prelude.{◌≡◌, ◌≢◌, ◌/◌, [], IfOk, IfS
 ghost use Rattle.dns_queries.specs.declared.incoming.Why.{Why};
 ghost use Rattle.sip_resolver.specs.Questions.{IsLeast};
 ghost use Rattle.sip_resolver.specs.declared.resolver.ReplyOutcome.TheVariants.{Ignored};
+ghost use Rattle.rolling_resolver.specs.Rests.{GainsFrom, KeepsAnswers};
+ghost use Rattle.rolling_resolver.specs.Rolling.{IsQueryOf, SameSeats, dues_in};
+ghost use Rattle.wokhleas.specs.Handles.{GoesBy, StaysBy};
 ghost use Rattle.wokhleas.specs.Numbers.{number_of_over};
-ghost use Rattle.wokhleas.specs.Rests.{GainsFrom, KeepsAnswers};
-ghost use Rattle.wokhleas.specs.States.{GoesBy, IsLeft, IsQueryOf, IsReceived, IsTransmitted, SameSeats, StaysBy, dues_in};
+ghost use Rattle.wokhleas.specs.Wires.{IsLeft, IsReceived, IsTransmitted};
 
-use crate::clock::{Instant, instant_of, left_until};
-use crate::generation::Sent;
 use crate::handle::Handle;
 use crate::numbers::{number_of_over, over_of};
 use crate::status::{DONE, Status};
+use rolling_resolver::{Instant, Sent, instant_of, left_until};
 use sip_resolver::{DnsTransport, ReplyOutcome};
 use std::alloc::Global;
 
@@ -43,10 +44,11 @@ fn transmit(
         (λ old new. IsQueryOf sent.over sent.send (take sent.length octets.new) new)
         handle.old.held.state handle.new.held.state) }
     ensures seats { StaysBy SameSeats handle.old.held.state handle.new.held.state }
+    ensures answers { StaysBy KeepsAnswers handle.old.held.state handle.new.held.state }
 {
-    let mut state = handle.take(alloc)?;
-    let sent = state.transmit(&at, octets);
-    handle.put(state);
+    let mut resolver = handle.take(alloc)?;
+    let sent = resolver.transmit(&at, octets);
+    handle.put(resolver);
     match sent {
         Some(sent) => Ok(sent),
         None => Err(Status::Nothing),
@@ -64,10 +66,12 @@ fn receive(
     ensures received { OnOk result (GoesBy (IsReceived (number_of_over over) octets.now at.second)
         handle.old.held.state handle.new.held.state) }
     ensures unchanged { OnErr result (handle.new.held.state ≡ handle.old.held.state) }
+    ensures answers { StaysBy (GainsFrom octets.now)
+        handle.old.held.state handle.new.held.state }
 {
-    let mut state = handle.take(alloc)?;
-    let heard = state.receive(&at, over, octets);
-    handle.put(state);
+    let mut resolver = handle.take(alloc)?;
+    let heard = resolver.receive(&at, over, octets);
+    handle.put(resolver);
     match heard {
         Ok(heard) => is_reply(heard),
         Err(_) => Err(Status::Memory),
@@ -88,11 +92,12 @@ fn is_reply(heard: ReplyOutcome) -> Result<(), Status>
 /// Says that no server takes a query.
 fn give_up(alloc: Global, handle: &mut Handle, query: u32) -> Result<(), Status>
     ensures seats { StaysBy SameSeats handle.old.held.state handle.new.held.state }
+    ensures answers { StaysBy KeepsAnswers handle.old.held.state handle.new.held.state }
     ensures unchanged { OnErr result (handle.new.held.state ≡ handle.old.held.state) }
 {
-    let mut state = handle.take(alloc)?;
-    let found = state.give_up(query);
-    handle.put(state);
+    let mut resolver = handle.take(alloc)?;
+    let found = resolver.give_up(query);
+    handle.put(resolver);
     if found { Ok(()) } else { Err(Status::Nothing) }
 }
 
@@ -103,9 +108,9 @@ fn deadline(alloc: Global, handle: &mut Handle) -> Result<u64, Status>
     ensures none { OnErr result (IfSome handle.old.held.state (λ state. dues_in state ≡ [])) }
     ensures same { handle.new.held.state ≡ handle.old.held.state }
 {
-    let state = handle.take(alloc)?;
-    let second = state.deadline();
-    handle.put(state);
+    let resolver = handle.take(alloc)?;
+    let second = resolver.deadline();
+    handle.put(resolver);
     match second {
         Some(second) => Ok(second),
         None => Err(Status::Nothing),

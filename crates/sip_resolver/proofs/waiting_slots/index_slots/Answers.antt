@@ -1,4 +1,4 @@
-use Rattle.std.proofs.Common.{length, take, ◌≡◌, ◌∙◌, sym, arith}
+use Rattle.std.proofs.Common.{take, ◌∙◌, arith}
 use Rattle.std.proofs.lemmas.List.{length-take-le}
 use Rattle.sip_resolver.proofs.Slotting.{taken-more}
 use Rattle.sip_resolver.proofs.waiting_slots.index_slots.Goals as goal

@@ -1,4 +1,4 @@
-use Rattle.wokhleas.proofs.Renewing.{submitted-by}
+use Rattle.wokhleas.proofs.Handling.{submitted-by}
 use Rattle.wokhleas.proofs.requests.submit_text.Goals as goal
 
 pub returns-in-Ok-clause-submitted : goal.returns-in-Ok-clause-submitted

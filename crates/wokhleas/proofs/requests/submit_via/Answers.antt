@@ -1,4 +1,4 @@
-use Rattle.wokhleas.proofs.Renewing.{submitted-by}
+use Rattle.wokhleas.proofs.Handling.{submitted-by}
 use Rattle.wokhleas.proofs.requests.submit_via.Goals as goal
 
 pub returns-clause-submitted : goal.returns-clause-submitted

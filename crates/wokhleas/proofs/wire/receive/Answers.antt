@@ -4,13 +4,12 @@ use Rattle.wokhleas.proofs.wire.receive.Goals as goal
 pub returns-in-Ok-clause-received : goal.returns-in-Ok-clause-received
 returns-in-Ok-clause-received c =
     let receives = rw c.deref_mut.ensures.value at c.in-Ok.ensures.receives in
-    rw (c.in_ok-state.ensures.taken, c.put.ensures)
+    rw (c.in_ok-resolver.ensures.taken, c.put.ensures)
     (received-as c.args.over c.args.octets.now c.args.at.second c.in-Ok.heard c.is_reply.result _ c.receive-heard.new.self
     c.is_reply.ensures.reply receives)
 
 pub returns-in-Ok-clause-unchanged : goal.returns-in-Ok-clause-unchanged
 returns-in-Ok-clause-unchanged c =
-    let receives = rw c.deref_mut.ensures.value at c.in-Ok.ensures.receives in
-    rw (c.in_ok-state.ensures.taken, c.put.ensures)
-    (ignored-same c.args.over c.args.octets.now c.args.at.second c.in-Ok.heard c.is_reply.result _ c.receive-heard.new.self
-    c.is_reply.ensures.ignored receives)
+    rw (c.in_ok-resolver.ensures.taken, c.put.ensures)
+    (ignored-same c.in-Ok.heard c.is_reply.result _ c.receive-heard.new.self c.is_reply.ensures.ignored
+    (rw c.deref_mut.ensures.value at c.in-Ok.ensures.ignored))

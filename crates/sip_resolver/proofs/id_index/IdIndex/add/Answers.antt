@@ -1,4 +1,4 @@
-use Rattle.std.proofs.Common.{◌≡◌, sym}
+use Rattle.std.proofs.Common.{◌≡◌}
 use Rattle.std.proofs.lemmas.List.{get_or_read}
 use Rattle.sip_resolver.proofs.Linking.{index-more}
 use Rattle.sip_resolver.specs.WaitingQueues.{IndexView, end_of, first_of}

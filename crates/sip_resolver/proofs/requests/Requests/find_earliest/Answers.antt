@@ -1,4 +1,4 @@
-use Rattle.std.proofs.Common.{Some, sym, ◌∙◌, arith}
+use Rattle.std.proofs.Common.{Some, ◌∙◌, arith}
 use Rattle.sip_resolver.proofs.Earlier.{as-never, earliest-found, moments-in, parts}
 use Rattle.sip_resolver.specs.Earliest.{ends_at, untils_in}
 use Rattle.sip_resolver.proofs.requests.Requests.find_earliest.Goals as goal

@@ -1,4 +1,3 @@
-use Rattle.std.proofs.Common.{◌∙◌}
 use Rattle.sip_resolver.proofs.Lining.{has-where}
 use Rattle.sip_resolver.proofs.waiting_queue.WaitingQueue.has.Goals as goal
 

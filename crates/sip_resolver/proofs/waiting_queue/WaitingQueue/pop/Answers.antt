@@ -1,6 +1,6 @@
-use Rattle.std.proofs.Common.{◌<◌, length, refl, arith}
+use Rattle.std.proofs.Common.{refl, arith}
 use Rattle.std.proofs.lemmas.Option.{slice_get_within}
-use Rattle.sip_resolver.proofs.Lining.{first-out, queued-less, slot_with, some-wait}
+use Rattle.sip_resolver.proofs.Lining.{first-out, queued-less, some-wait}
 use Rattle.sip_resolver.proofs.waiting_queue.WaitingQueue.pop.Goals as goal
 
 pub overflow_sub-self : goal.overflow_sub-self

@@ -1,4 +1,4 @@
-use Rattle.std.proofs.Common.{◌∙◌, ap, refl, arith}
+use Rattle.std.proofs.Common.{◌∙◌, ap, refl}
 use Rattle.sip_resolver.specs.Queues.{Queued}
 use Rattle.sip_resolver.specs.WaitingQueues.{SlotView, items_of}
 use Rattle.sip_resolver.proofs.Lining.{items-more, queued-more}

@@ -1,4 +1,4 @@
-use Rattle.std.proofs.Common.{refl, ap, ◌∙◌, arith}
+use Rattle.std.proofs.Common.{refl, ◌∙◌, arith}
 use Rattle.sip_resolver.proofs.Slotting.{items-kept, kept-long}
 use Rattle.sip_resolver.proofs.waiting_slots.WaitingSlots.make_room.Goals as goal
 

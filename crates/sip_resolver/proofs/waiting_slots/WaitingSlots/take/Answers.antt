@@ -1,4 +1,4 @@
-use Rattle.std.proofs.Common.{◌∙◌, length, arith}
+use Rattle.std.proofs.Common.{◌∙◌, arith}
 use Rattle.std.proofs.lemmas.List.{length-set}
 use Rattle.sip_resolver.proofs.Slotting.{emptied}
 use Rattle.sip_resolver.proofs.waiting_slots.WaitingSlots.take.Goals as goal

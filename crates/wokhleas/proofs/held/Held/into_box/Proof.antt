@@ -1,5 +1,5 @@
 -- `into_box` makes the box again.
-use Rattle.std.proofs.Common.{◌≡◌, ℕ, true, Option, Some, is_some, List, [], ◌∷◌, ◌++◌, refl, sym, ap, ◌∙◌, subst}
+use Rattle.std.proofs.Common.{◌≡◌, true, Option, Some, is_some, List, [], ◌∷◌, ◌++◌, refl, sym, ap, ◌∙◌, subst}
 use mir.Syntax.{Dict, impl, tcons, tnil, dnil}
 use mir.Raw.{raw as bare}
 use mir.Val.{Val, vptr}
@@ -8,7 +8,7 @@ use base.Logic.{SProp, ent, emp, never, id⊢, fst∗}
 use base.Fml.{ftrue, flft}
 use prog.Wp.{WpFn}
 use types.Logic.{sem}
-use types.Kit.{Item, ‵, raw, ◌⊛◌, some, later, at_ret, ◌$◌, ◌∵◌, !, qed, by, move, keep, drop, split, split3, join, fsplit, fjoin, fpick, pick, suffices, use0, use1, await, rewrite, feq_i}
+use types.Kit.{Item, ‵, raw, ◌⊛◌, some, later, at_ret, ◌$◌, ◌∵◌, !, qed, by, move, keep, drop, split, split3, join, fsplit, fjoin, pick, suffices, use0, use1, await, rewrite, feq_i}
 use types.Run.{stop, fld, of_opd, no_more, and_then, first, blocks, exec, returns, enter}
 use types.ByLocal.{alloc_all, pass_all, free_all, look_at, get, get_in, sets, lands_last, env}
 use types.Part.{sub, whole}
@@ -46,8 +46,8 @@ use Rattle.std_alloc.specs.contracts.boxed.Box.from_raw as callee
 use Rattle.std_alloc.proofs.boxed.Box.from_raw.Met.{met}
 use Rattle.wokhleas.proofs.Destruct++none.drop.Symbol as no_drop
 use Rattle.wokhleas.specs.Handles.{boxed_as}
-use Rattle.wokhleas.specs.contracts.state.State as state
-use Rattle.wokhleas.proofs.state.State.TheLaws as state_laws
+use Rattle.rolling_resolver.specs.contracts.resolver.RollingResolver as state
+use Rattle.rolling_resolver.proofs.resolver.RollingResolver.TheLaws as state_laws
 use Rattle.wokhleas.specs.contracts.held.Held as held
 use Rattle.wokhleas.proofs.HeldSteps.{word, Data, told, value_of, word_good}
 use Rattle.wokhleas.specs.contracts.held.Held.into_box.{ended, clauses}

@@ -1,11 +1,11 @@
 -- `lift` hands what is owned to another pointer.
-use Rattle.std.proofs.Common.{◌≡◌, ℕ, Option, Some, None, List, [], ◌∷◌, ◌++◌, sym, refl, ap, ◌∙◌}
+use Rattle.std.proofs.Common.{◌≡◌, ℕ, None, List, [], ◌∷◌, sym, refl}
 use mir.Syntax.{named}
 use mir.Val.{Val, vptr}
 use base.Fraction.{full_share}
 use base.Logic.{SProp, emp}
-use base.Fml.{Lft, Fml, ftrue, flft}
-use types.Kit.{‵, raw, ◌⊛◌, at_ret, ◌$◌, ◌∵◌, !, qed, by, move, keep, drop, split, join, fsplit, fsplit3, fjoin, fjoin3, use0, rewrite, feq_i}
+use base.Fml.{Lft, ftrue, flft}
+use types.Kit.{‵, raw, ◌⊛◌, ◌$◌, ◌∵◌, !, qed, by, move, keep, split, join, fsplit, fsplit3, fjoin, fjoin3, use0, rewrite, feq_i}
 use types.Run.{stop, fld, load, of_opd, no_more, and_then, returns, enter}
 use types.ByLocal.{alloc_all, pass_all, free_all, look_at, get, through, sets}
 use types.Part.{agg, sub, whole, look_in}
@@ -20,8 +20,6 @@ use denote.Memory.{cell_at}
 use denote.Ref.{mut_vals, mut_Tells}
 use denote.Triple.Walked.{Stays, stay_ref, walk_of, Goes-ref}
 use Rattle.std.proofs.raw_atomic.Walks.{proved, leaves}
-use Rattle.wokhleas.specs.Handles.{boxed_as}
-use Rattle.wokhleas.specs.contracts.state.State as state
 use Rattle.wokhleas.specs.contracts.held.Held as held
 use Rattle.wokhleas.proofs.HeldSteps.{word, Data, told, made, ptr_good, word_good}
 use Rattle.wokhleas.specs.contracts.held.Held.lift.{ended, clauses}

@@ -1,0 +1,9 @@
+pub mod Cancelling
+pub mod Choosing
+pub mod Crossing
+pub mod Receiving
+pub mod Renewing
+pub mod Resting
+pub mod Seating
+pub mod Soundness
+pub mod Transmitting

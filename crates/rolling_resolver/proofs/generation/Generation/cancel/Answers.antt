@@ -1,0 +1,10 @@
+use Rattle.rolling_resolver.proofs.generation.Generation.cancel.Goals as goal
+
+pub invariant_of-self : goal.invariant_of-self
+invariant_of-self c = record {
+  seated = c.self.invariant.seated;
+  stand = c.cancel.ensures.stand c.self.inside.seat c.self.invariant.stand;
+}
+
+pub returns-clause-found : goal.returns-clause-found
+returns-clause-found c = rw (← c.self.view_is) c.cancel.ensures.found

@@ -1,0 +1,7 @@
+use Rattle.std.proofs.Common.{inr, refl}
+use Rattle.rolling_resolver.proofs.resolver.RollingResolver.begin_next.Goals as goal
+
+pub returns-clause-begins : goal.returns-clause-begins
+returns-clause-begins c =
+    rw (← c.self.view_is, c.replace.ensures.value, c.replace.ensures.after)
+    (inr (record { carries = c.in-Ok.ensures.seat; older = refl }))

@@ -1,0 +1,4 @@
+pub mod Instants
+pub mod Rests
+pub mod Rolling
+pub mod Stats

@@ -1,7 +1,0 @@
-use Rattle.std.proofs.Common.{inr, refl}
-use Rattle.wokhleas.proofs.state.State.begin_next.Goals as goal
-
-pub returns-clause-begins : goal.returns-clause-begins
-returns-clause-begins c =
-    rw (← c.self.view_is, c.replace.ensures.value, c.replace.ensures.after)
-    (inr (record { carries = c.in-Ok.ensures.seat; older = refl }))

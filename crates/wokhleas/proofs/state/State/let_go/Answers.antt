@@ -1,4 +1,0 @@
-use Rattle.wokhleas.proofs.state.State.let_go.Goals as goal
-
-pub returns-clause-answers : goal.returns-clause-answers
-returns-clause-answers c = rw (← c.self.view_is) (λ given it. record { current = it.current; draining = tt })

@@ -1,7 +1,0 @@
-use Rattle.wokhleas.proofs.Soundness.{younger-taken}
-use Rattle.wokhleas.proofs.state.State.next_ended.Goals as goal
-
-pub returns-clause-some : goal.returns-clause-some
-returns-clause-some c =
-    rw (← c.in_default.ensures.none, ← c.self.view_is)
-    (younger-taken c.next_ended.result _ c.next_ended.new.self c.next_ended.ensures.taken)

@@ -1,8 +1,0 @@
-use Rattle.wokhleas.proofs.Receiving.{older-receives}
-use Rattle.wokhleas.proofs.state.State.receive_older.Goals as goal
-
-pub returns-clause-receives : goal.returns-clause-receives
-returns-clause-receives c =
-    rw (← c.self.view_is)
-    (older-receives c.args.over c.args.octets.now c.args.at.now.second _ c.args.why c.receive.result _ c.receive.new.self c.in-Some.is
-    c.receive.ensures.learns)

@@ -1,7 +1,0 @@
-use Rattle.std.proofs.Common.{refl}
-use Rattle.wokhleas.proofs.Transmitting.{older-sends}
-use Rattle.wokhleas.proofs.state.State.transmit_older.Goals as goal
-
-pub returns-clause-query : goal.returns-clause-query
-returns-clause-query c =
-    older-sends c.transmit.result c.transmit.new.octets c.transmit.new.self _ refl c.transmit.ensures.written
