@@ -18,8 +18,8 @@
  * returns, and nothing that it gives has to be freed; a resolver that was opened is to be closed. What lies behind a
  * resolver is taken by malloc and realloc, and given back by free.
  *
- * Threads. One call at a time for each resolver. Different resolvers share nothing. No function may be called in a
- * signal handler.
+ * Threads. One call at a time for each resolver, by any thread: where two threads have one, a lock is held around each
+ * call. Different resolvers share nothing. No function may be called in a signal handler.
  *
  * Times are milliseconds of a clock that never goes back, as CLOCK_MONOTONIC; any start will do. Queries wait whole
  * seconds: a time at which something is due is rounded up, so nothing is sent again, given up or ended too early.

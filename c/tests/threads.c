@@ -17,6 +17,7 @@ static wokhleas_resolver resolver = WOKHLEAS_RESOLVER_INIT;
 static pthread_mutex_t lock = PTHREAD_MUTEX_INITIALIZER;
 static bool is_taken[REQUESTS]; /* the outcome of the request of this number */
 static unsigned submitted, taken;
+static int opened;
 
 /* ---- calls, by who has the lock */
 
@@ -81,7 +82,7 @@ static void *help(void *context) {
 }
 
 static void *open_it(void *context) {
-    EXPECT_STATUS(open_resolver(&resolver, REQUESTS, 64, true), WOKHLEAS_OK);
+    opened = open_resolver(&resolver, REQUESTS, 64, true);
     return context;
 }
 
@@ -104,6 +105,7 @@ int main(void) {
     pthread_t alone, helpers[PARTS], submitters[SUBMITTERS];
     begin(&alone, open_it, NULL);
     end(alone);
+    EXPECT_STATUS(opened, WOKHLEAS_OK);
     for (unsigned at = 0; at < PARTS; at++) begin(&helpers[at], help, (void *)&parts[at]);
     for (unsigned at = 0; at < SUBMITTERS; at++) begin(&submitters[at], submit_all, NULL);
     for (unsigned at = 0; at < SUBMITTERS; at++) end(submitters[at]);
