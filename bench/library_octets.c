@@ -54,7 +54,7 @@ static size_t answer_octets(void) {
     open_with(&resolver, 1, 2);
     before = octets_held();
     for (unsigned number = 0; number < MANY; number++) {
-        char uri[64], name[64];
+        char uri[80], name[64];
         snprintf(name, sizeof name, "host%u.example", number);
         snprintf(uri, sizeof uri, "sip:%s:5060", name);
         struct record zone[] = { { name, "A 198.18.0.1" }, { NULL, NULL } };
