@@ -87,10 +87,7 @@ fn told_question(resolver: &RollingResolver) -> Option<&Question>
 }
 
 /// Writes the name that a question asks about into a buffer.
-fn write_question(
-    resolver: &RollingResolver,
-    name: &mut [u8],
-) -> Result<ToldQuestion, Status> {
+fn write_question(resolver: &RollingResolver, name: &mut [u8]) -> Result<ToldQuestion, Status> {
     let Some(question) = told_question(resolver) else {
         return Err(Status::Nothing);
     };
