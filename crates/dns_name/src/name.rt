@@ -119,6 +119,7 @@ impl PartialEq for Name {
     ghost laws = { Prim.search (comparing, rules) };
 
     /// Names are equal exactly where their labels are (RFC 1035 2.3.3: in any case of letters).
+    #[inline(always)]
     fn eq(&self, other: &Name) -> bool
         ensures value { result ≡ same_name self.now other.now }
         ensures same { IsTrue result ↔ (self.now ≡ other.now) }

@@ -116,8 +116,13 @@ impl Octets {
     pub(crate) fn try_clone(&self) -> Result<Octets, AllocError>
         ensures { IfOk result (λ copy. copy ≡ self.now) }
     {
+        let heap = if self.heap.is_empty() {
+            Vec::new(self.allocator())
+        } else {
+            Vec::from_slice(self.allocator(), self.heap.as_slice())?
+        };
         Ok(Octets {
-            heap: Vec::from_slice(self.allocator(), self.heap.as_slice())?,
+            heap,
             inline: self.inline,
             length: self.length,
         })
@@ -144,12 +149,22 @@ impl Octets {
     }
 
     /// Whether the octets are the same.
+    #[inline(always)]
     pub(crate) fn is_same(&self, other: &Octets) -> bool
         ensures { IsTrue result ↔ (self.now ≡ other.now) }
     {
         if self.heap.is_empty() && other.heap.is_empty() {
             return self.length == other.length && are_same(&self.inline, &other.inline);
         }
+        self.is_same_long(other)
+    }
+
+    /// Whether the octets are the same, wherever they lie. By itself, so that what compares names
+    /// stays small.
+    #[inline(never)]
+    fn is_same_long(&self, other: &Octets) -> bool
+        ensures { IsTrue result ↔ (self.now ≡ other.now) }
+    {
         self.as_slice() == other.as_slice()
     }
 
