@@ -28,8 +28,8 @@ connection_is found port route (straight e) = rw e refl
 -- ---- by a datagram
 
 abbrev hosted : HostPart → Option ℕ → ℕ → ResponseRoute
-hosted (part.V4 octets) ttl port = steps (Maddr (endpoint (V4 octets) port) (multicast_ttl (V4 octets) ttl)) None None
-hosted (part.V6 octets) ttl port = steps (Maddr (endpoint (V6 octets) port) (multicast_ttl (V6 octets) ttl)) None None
+hosted (part.V4 host) ttl port = steps (Maddr (endpoint (V4 host.octets) port) (multicast_ttl (V4 host.octets) ttl)) None None
+hosted (part.V6 host) ttl port = steps (Maddr (endpoint (V6 host.octets) port) (multicast_ttl (V6 host.octets) ttl)) None None
 hosted (part.Domain name) ttl port = steps (MaddrName name port) None None
 
 abbrev sourced : Option Address → Option ℕ → ℕ → ResponseRoute
@@ -43,8 +43,8 @@ sent None found it ttl port = sourced found it port
 
 host_is : (host : HostPart) (address : Address) (ttl : Option ℕ) (port : ℕ) → address_of host ≡ Some address
     → steps (Maddr (endpoint address port) (multicast_ttl address ttl)) None None ≡ hosted host ttl port
-host_is (part.V4 octets) address ttl port e = rw (← same_Some (V4 octets) address e) refl
-host_is (part.V6 octets) address ttl port e = rw (← same_Some (V6 octets) address e) refl
+host_is (part.V4 host) address ttl port e = rw (← same_Some (V4 host.octets) address e) refl
+host_is (part.V6 host) address ttl port e = rw (← same_Some (V6 host.octets) address e) refl
 host_is (part.Domain name) address ttl port e = absurd cc
 
 datagram_is : (params : RouteParams) (port : ℕ) (route : ResponseRoute) → ByDatagram params port route

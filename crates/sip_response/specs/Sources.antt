@@ -9,8 +9,8 @@ use Rattle.sip_uri.specs.declared.route_params.Rport.TheVariants.{Absent, Empty,
 
 -- the address that a host is, where it is one
 abbrev pub address_of : HostPart → Option Address
-address_of (part.V4 octets) = Some (V4 octets)
-address_of (part.V6 octets) = Some (V6 octets)
+address_of (part.V4 host) = Some (V4 host.octets)
+address_of (part.V6 host) = Some (V6 host.octets)
 address_of (part.Domain name) = None
 
 -- What `received` says of a request that came from an address: that address, where the host of the

@@ -191,8 +191,8 @@ fn to_host<'a>(host: HostPart<'a>, params: &RouteParams<'a>, port: u16) -> Respo
     ensures { spec.ByDatagram params.now port result }
 {
     match host {
-        HostPart::V4(octets) => to_maddr(Address::V4(octets), params, port),
-        HostPart::V6(octets) => to_maddr(Address::V6(octets), params, port),
+        HostPart::V4(host) => to_maddr(Address::V4(host.octets), params, port),
+        HostPart::V6(host) => to_maddr(Address::V6(host.octets), params, port),
         HostPart::Domain(name) => to_maddr_name(name, port),
     }
 }

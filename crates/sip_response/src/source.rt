@@ -11,8 +11,8 @@ fn is_address(host: HostPart<'_>, address: Address) -> bool
     ensures { IsTrue result ↔ (spec.address_of host.entry ≡ Some address) }
 {
     match (host, address) {
-        (HostPart::V4(octets), Address::V4(others)) => octets == others,
-        (HostPart::V6(octets), Address::V6(others)) => octets == others,
+        (HostPart::V4(host), Address::V4(octets)) => host.octets == octets,
+        (HostPart::V6(host), Address::V6(octets)) => host.octets == octets,
         _ => false,
     }
 }

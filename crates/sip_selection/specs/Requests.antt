@@ -35,15 +35,15 @@ IsRequestView (view.Via parts) = IsHostView parts.host
 
 -- the host whose addresses are needed
 abbrev pub host_in : TargetView → Host
-host_in (part.V4 octets) = host.V4 octets
-host_in (part.V6 octets) = host.V6 octets
+host_in (part.V4 address) = host.V4 address.octets
+host_in (part.V6 address) = host.V6 address.octets
 host_in (part.Name name) = host.Domain name.now
 host_in (part.Hostname text) = host.Domain (name_of text.now)
 
 -- where it is a text, that is a hostname
 abbrev pub IsTargetView : TargetView → Type 0
-IsTargetView (part.V4 octets) = ⊤
-IsTargetView (part.V6 octets) = ⊤
+IsTargetView (part.V4 address) = ⊤
+IsTargetView (part.V6 address) = ⊤
 IsTargetView (part.Name name) = ⊤
 IsTargetView (part.Hostname text) = DomainText text.now (name_of text.now)
 

@@ -615,13 +615,13 @@ pub(crate) fn begin<'s, S: AnswerSource>(
 {
     let targets = &mut walk.targets;
     match request.target() {
-        TargetView::V4(octets) => {
+        TargetView::V4(it) => {
             let transport = transport_offered(request, caps);
-            to_address(targets, Address::V4(octets), request.port(), transport)
+            to_address(targets, Address::V4(it.octets), request.port(), transport)
         }
-        TargetView::V6(octets) => {
+        TargetView::V6(it) => {
             let transport = transport_offered(request, caps);
-            to_address(targets, Address::V6(octets), request.port(), transport)
+            to_address(targets, Address::V6(it.octets), request.port(), transport)
         }
         TargetView::Name(name) => {
             for_name(walk, seat, source, alloc, request, caps, words, name)

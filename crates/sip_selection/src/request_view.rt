@@ -5,7 +5,7 @@ ghost use Rattle.sip_selection.specs.Requests as spec;
 
 use crate::request::Request;
 use dns_name::Name;
-use sip_uri::{Host, HostPart, Spoken, UriParts, ViaParts};
+use sip_uri::{Host, HostPart, Spoken, UriParts, V4Octets, V6Octets, ViaParts};
 use std::alloc::{AllocError, Global};
 
 /// What is located: a request that was read, or one as it stands in its text.
@@ -22,8 +22,8 @@ pub enum RequestView<'a> {
 /// The host whose addresses are needed.
 #[derive(Clone, Copy)]
 pub(crate) enum TargetView<'a> {
-    V4([u8; 4]),
-    V6([u8; 16]),
+    V4(V4Octets),
+    V6(V6Octets),
     /// A name.
     Name(&'a Name),
     /// A name as it stands in a text.
@@ -36,8 +36,8 @@ fn host_view(host: &Host) -> TargetView<'_>
     ensures view { spec.IsTargetView result }
 {
     match host {
-        Host::V4(octets) => TargetView::V4(*octets),
-        Host::V6(octets) => TargetView::V6(*octets),
+        Host::V4(octets) => TargetView::V4(V4Octets::new(*octets)),
+        Host::V6(octets) => TargetView::V6(V6Octets::new(*octets)),
         Host::Domain(name) => TargetView::Name(name),
     }
 }
@@ -50,8 +50,8 @@ fn part_view(host: HostPart<'_>) -> TargetView<'_>
     ensures view { spec.IsTargetView result }
 {
     match host {
-        HostPart::V4(octets) => TargetView::V4(octets),
-        HostPart::V6(octets) => TargetView::V6(octets),
+        HostPart::V4(address) => TargetView::V4(address),
+        HostPart::V6(address) => TargetView::V6(address),
         HostPart::Domain(hostname) => TargetView::Hostname(hostname),
     }
 }

@@ -17,8 +17,8 @@ use Rattle.sip_uri.proofs.UriTexts.{uri_again, uri_read, uri_octets, bad_scheme,
 -- ---- hosts
 
 pub host_seen : (host : HostPart) → IsHostPart host → IsHostView host
-host_seen (part.V4 octets) is = tt
-host_seen (part.V6 octets) is = tt
+host_seen (part.V4 address) is = tt
+host_seen (part.V6 address) is = tt
 host_seen (part.Domain text) is = hostname_read text.now is
 
 pub maddr_seen : (maddr : Option HostPart) → IfSome maddr IsHostPart → IfSome maddr IsHostView

@@ -20,14 +20,14 @@ name_of text = map small_letters (parted 46 (without_closing_dot text))
 
 -- the host that a view means
 abbrev pub host_of : HostPart → Host
-host_of (part.V4 octets) = V4 octets
-host_of (part.V6 octets) = V6 octets
+host_of (part.V4 address) = V4 address.octets
+host_of (part.V6 address) = V6 address.octets
 host_of (part.Domain text) = Domain (name_of text.now)
 
 -- a view is one of a host: where it is a text, that is a hostname
 abbrev pub IsHostView : HostPart → Type 0
-IsHostView (part.V4 octets) = ⊤
-IsHostView (part.V6 octets) = ⊤
+IsHostView (part.V4 address) = ⊤
+IsHostView (part.V6 address) = ⊤
 IsHostView (part.Domain text) = DomainText text.now (name_of text.now)
 
 -- the URI that a view means

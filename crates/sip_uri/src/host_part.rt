@@ -8,6 +8,7 @@ ghost use Rattle.sip_uri.specs.Hosts.{DomainText, IsNamed};
 ghost use Rattle.sip_uri.specs.Readers.Hosts as spec;
 ghost use Rattle.sip_uri.specs.Views.{name_of, host_of, IsHostView};
 
+use crate::address_octets::{V4Octets, V6Octets};
 use crate::host::Host;
 use crate::hostname::is_hostname;
 use dns_name::Name;
@@ -18,9 +19,9 @@ use std::alloc::{AllocError, Global};
 #[derive(Clone, Copy, Debug)]
 pub enum HostPart<'a> {
     /// An IPv4 address.
-    V4([u8; 4]),
+    V4(V4Octets),
     /// An IPv6 address.
-    V6([u8; 16]),
+    V6(V6Octets),
     /// A hostname, in letters of any case.
     Domain(&'a [u8]),
 }
@@ -44,8 +45,8 @@ impl HostPart<'_> {
         ensures memory { OnErr result (IsNamed (host_of self.entry)) }
     {
         match self {
-            HostPart::V4(octets) => Ok(Host::V4(octets)),
-            HostPart::V6(octets) => Ok(Host::V6(octets)),
+            HostPart::V4(address) => Ok(Host::V4(address.octets)),
+            HostPart::V6(address) => Ok(Host::V6(address.octets)),
             HostPart::Domain(hostname) => Ok(Host::Domain(name_of_hostname(alloc, hostname)?)),
         }
     }
@@ -58,7 +59,7 @@ pub(crate) fn plain_host(text: &[u8]) -> Option<HostPart<'_>>
     ensures hostname { IfSome result spec.IsHostPart }
 {
     if let Some(octets) = ipv4_octets(text) {
-        return Some(HostPart::V4(octets));
+        return Some(HostPart::V4(V4Octets::new(octets)));
     }
     if !is_hostname(text) {
         return None;
@@ -88,7 +89,8 @@ pub(crate) fn host_in_brackets(text: &[u8]) -> Option<(HostPart<'_>, Option<&[u8
 {
     let (inner, behind) = next_part(text, b']');
     let port = port_part(behind?)?;
-    Some((HostPart::V6(ipv6_octets(inner)?), port))
+    let address = V6Octets::new(ipv6_octets(inner)?);
+    Some((HostPart::V6(address), port))
 }
 
 /// The host at the front of a text, and the port after it, if a colon stands there.

@@ -17,7 +17,7 @@
 //!
 //! let parts = view_uri(b"sip:b.example:5070;maddr=192.0.2.7")?;
 //! assert_eq!(rt; parts.port, Some(5070));
-//! assert!(rt; matches!(parts.target(), HostPart::V4([192, 0, 2, 7])));
+//! assert!(rt; matches!(parts.target(), HostPart::V4(it) if it.octets == [192, 0, 2, 7]));
 //! ```
 //!
 //! # The profile
@@ -52,6 +52,7 @@
 //! no name of TCP.
 #![tactic(auto)]
 
+mod address_octets;
 mod classes;
 mod headers;
 mod host;
@@ -76,6 +77,7 @@ mod via_parts;
 mod via_text;
 mod via_values;
 
+pub use address_octets::{V4Octets, V6Octets};
 pub use host::Host;
 pub use host_part::{HostPart, name_of_hostname};
 pub use ip_text::{Address, address_from_text, address_text, decimal, law_written_address_is_read};

@@ -45,8 +45,8 @@ fn received_address(text: &[u8]) -> Option<Address>
 {
     match host_part(text) {
         None => Some(Address::V6(ipv6_octets(text)?)),
-        Some(HostPart::V4(octets)) => Some(Address::V4(octets)),
-        Some(HostPart::V6(octets)) => Some(Address::V6(octets)),
+        Some(HostPart::V4(address)) => Some(Address::V4(address.octets)),
+        Some(HostPart::V6(address)) => Some(Address::V6(address.octets)),
         Some(HostPart::Domain(_)) => None,
     }
 }

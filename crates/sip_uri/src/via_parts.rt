@@ -7,6 +7,7 @@ ghost use Rattle.sip_uri.specs.Readers.ViaFronts as spec;
 ghost use Rattle.sip_uri.specs.Hosts.{IsNamed};
 ghost use Rattle.sip_uri.specs.Views.{host_of, via_of, IsHostView};
 
+use crate::address_octets::V6Octets;
 use crate::host_part::{HostPart, plain_host};
 use crate::place::port_number;
 use crate::refusal::UriRefusal;
@@ -87,7 +88,8 @@ fn via_host_in_brackets(text: &[u8]) -> Option<(HostPart<'_>, &[u8])>
     if !cut(Row::Host, behind).0.is_empty() {
         return None;
     }
-    Some((HostPart::V6(ipv6_octets(inner)?), behind))
+    let address = V6Octets::new(ipv6_octets(inner)?);
+    Some((HostPart::V6(address), behind))
 }
 
 /// The host in front, and what follows it.

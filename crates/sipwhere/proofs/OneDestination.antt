@@ -73,8 +73,8 @@ module _ (via : ViaValue) (over : Transport) where
 
   host-is : (it : HostPart) (address : Address) (port : ℕ) → address_of it ≡ Some address
       → target_at over via.host (endpoint address port) ≡ hosted (host_of it) port
-  host-is (part.V4 octets) address port e = rw (← same_Some (V4 octets) address e) refl
-  host-is (part.V6 octets) address port e = rw (← same_Some (V6 octets) address e) refl
+  host-is (part.V4 host) address port e = rw (← same_Some (V4 host.octets) address e) refl
+  host-is (part.V6 host) address port e = rw (← same_Some (V6 host.octets) address e) refl
   host-is (part.Domain name) address port e = absurd cc
 
   datagram-is : (params : RouteParams) (port : ℕ) (route : ResponseRoute) → ByDatagram params port route

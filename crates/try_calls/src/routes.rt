@@ -39,8 +39,8 @@ fn push_name(output: &mut Output, name: &[u8]) {
 /// Writes a host.
 fn push_host(output: &mut Output, host: HostPart<'_>) {
     match host {
-        HostPart::V4(octets) => push_address(output, Address::V4(octets)),
-        HostPart::V6(octets) => push_address(output, Address::V6(octets)),
+        HostPart::V4(address) => push_address(output, Address::V4(address.octets)),
+        HostPart::V6(address) => push_address(output, Address::V6(address.octets)),
         HostPart::Domain(name) => push_name(output, name),
     }
 }

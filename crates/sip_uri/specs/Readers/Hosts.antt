@@ -11,8 +11,8 @@ use Rattle.sip_uri.specs.declared.host_part.HostPart.{HostPart}
 use Rattle.sip_uri.specs.declared.host_part.HostPart.TheVariants as part
 
 abbrev pub IsHostPart : HostPart → Type 0
-IsHostPart (part.V4 octets) = ⊤
-IsHostPart (part.V6 octets) = ⊤
+IsHostPart (part.V4 address) = ⊤
+IsHostPart (part.V6 address) = ⊤
 IsHostPart (part.Domain text) = is_hostname text.now ≡ true
 
 abbrev pub plain_host : List ℕ → Option Host
