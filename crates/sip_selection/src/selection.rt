@@ -337,12 +337,14 @@ pub fn choose<S: AnswerSource>(
     ensures memory { OnErr result
         (IsNotRefused (now_of (begun (request_of request.now) caps.now (words_of words.now)))) }
 {
-    let known = Known::new(alloc);
-    let (step, targets, known) = begun_over(&known, alloc, request, caps, words, source, seat)?;
+    let none = Known::new(alloc);
+    let mut walk = Walk::after(alloc, &none);
+    let step = begin(&mut walk, seat, source, alloc, request, caps, words)?;
     match step {
-        Step::Found => Ok(choice_of(targets)),
+        Step::Found => Ok(choice_of(walk.targets)),
         Step::Refused(reason) => Ok(Choice::Refused(reason)),
         Step::Ask(_, _) => {
+            let (targets, known) = walk.behind(0)?;
             let selection = asking_at(alloc, request, caps, words, targets, known, step)?;
             Ok(Choice::Asks(selection))
         }
