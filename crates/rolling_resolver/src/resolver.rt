@@ -122,7 +122,7 @@ impl RollingResolver {
         if !self.is_drained() {
             return;
         }
-        self.draining = None;
+        drop(self.draining.take());
     }
 
     /// Begins a generation, and the younger one is the older then. Where memory is refused this one
@@ -140,7 +140,8 @@ impl RollingResolver {
             return;
         };
         self.begun = self.begun.wrapping_add(1) % DRAWS;
-        self.draining = Some(std::mem::replace(&mut self.current, next));
+        let before = std::mem::replace(&mut self.current, next);
+        drop(self.draining.replace(before));
     }
 
     /// Begins a generation, where the book of this one may soon be full and no older one is there.
