@@ -120,7 +120,7 @@ fn deaf_run<R: Wait + AllocGlobal + time::Clock, G: Gate>(rt: &R, gate: &G) -> O
 fn faults_keep_no_processor_at_work(rt: HostRuntime) {
     let gate = counting_gate();
     let seen = deaf_run(&rt, &gate);
-    assert!(rt; matches!(seen, Some((true, receives)) if receives < 1_000));
+    assert!(rt; matches!(seen, Some((true, receives)) if 20 < receives && receives < 1_000));
     assert_eq!(rt; gate.begun.load(Ordering::SeqCst), 1);
     assert_eq!(rt; gate.answered.load(Ordering::SeqCst), 1);
     assert_eq!(rt; gate.early.load(Ordering::SeqCst), 0);

@@ -32,6 +32,8 @@ mod gathered;
 #[cfg(test)]
 mod lossy;
 #[cfg(test)]
+mod outcome_copies;
+#[cfg(test)]
 mod pages;
 #[cfg(test)]
 mod rolling;
@@ -49,6 +51,8 @@ mod udp_runs;
 mod worker_ids;
 #[cfg(test)]
 mod worker_jobs;
+#[cfg(test)]
+mod worker_rounds;
 #[cfg(test)]
 mod workers;
 #[cfg(test)]

@@ -9,7 +9,7 @@ use std::sync::Wait;
 use std::sync::atomic::{AtomicU64, Ordering};
 use std::thread::Threads;
 
-/// A gate that counts the calls for the numbers 0 to 7, in four bits for each number.
+/// A gate that counts the calls for eight numbers in a row, in four bits for each number.
 #[derive(Drop)]
 struct Counts {
     begun: AtomicU64,
@@ -45,6 +45,9 @@ impl Gate for Counts {
     }
 }
 
+/// The number of the first request: no number of 32 bits.
+const FIRST: u64 = 1 << 40;
+
 /// The port of the request at this place.
 fn port_at(place: usize) -> u16 {
     5060 + (place % 100) as u16
@@ -62,7 +65,10 @@ fn job_to_port(alloc: Global, number: u64, port: u16) -> Option<Job> {
 pub(crate) fn jobs_to_ports(alloc: Global, count: usize) -> Option<Vec<Job>> {
     let mut jobs = Vec::new(alloc);
     for place in 0..count {
-        push_job(&mut jobs, job_to_port(alloc, place as u64, port_at(place)))?;
+        push_job(
+            &mut jobs,
+            job_to_port(alloc, FIRST.wrapping_add(place as u64), port_at(place)),
+        )?;
     }
     Some(jobs)
 }
