@@ -1,8 +1,8 @@
 //! How many look-ups threads make over one cache, alone and beside stores.
 //!
-//! It takes no word, and prints a line for each run: its questions, its threads, how many look-ups
-//! come before each store (0 where nothing is stored), how many look-ups found an answer, and its
-//! microseconds.
+//! It takes no word, and prints a line for each run: `wokhleas` where a look-up shares its answer,
+//! and `wokhleas_lent` where it lends it, its questions, its threads, how many look-ups come before
+//! each store (0 where nothing is stored), how many look-ups found an answer, and its microseconds.
 ghost use Rattle.std.specs.Prelude.{IfSome};
 ghost use Rattle.std.specs.List.{All};
 ghost use Rattle.answer_cache.specs.Shared.{Belongs};
@@ -37,6 +37,8 @@ struct Load<'a> {
     known: &'a [Known],
     now: Moment,
     per_store: usize,
+    /// Whether a look-up lends its answer. Else it shares it, and counts that in the answer.
+    is_lent: bool,
 }
 
 impl<'a> Load<'a> {
@@ -69,11 +71,14 @@ fn fill<R: Wait>(rt: &R, cache: &SharedCache, seat: &mut Seat, load: &Load<'_>)
 }
 
 /// Whether a look-up finds an answer.
-fn is_found(cache: &SharedCache, seat: &mut Seat, it: &Known, now: Moment) -> bool
+fn is_found(cache: &SharedCache, seat: &mut Seat, it: &Known, load: &Load<'_>) -> bool
     requires { Belongs cache.now seat.old }
     ensures { Belongs cache.now seat.new }
 {
-    matches!(cache.lookup(seat, &it.question, now), Ok(Some(_)))
+    if load.is_lent {
+        return matches!(cache.look(seat, &it.question, load.now), Ok(Some(_)));
+    }
+    matches!(cache.lookup(seat, &it.question, load.now), Ok(Some(_)))
 }
 
 /// The look-ups of a thread, beside its stores: how many found an answer.
@@ -87,7 +92,7 @@ fn work<R: Wait>(rt: &R, cache: &SharedCache, seat: &mut Seat, load: &Load<'_>) 
     let mut ahead = load.per_store;
     'lookups: for _lookup in 0..LOOKUPS {
         if let Some(it) = load.at(next) {
-            if is_found(cache, seat, it, now) {
+            if is_found(cache, seat, it, load) {
                 found = found.wrapping_add(1);
             }
             if ahead == 1 {
@@ -211,8 +216,13 @@ fn print_run<R: Threads + Wait + Clock + Print + AllocGlobal + Sync>(
     threads: usize,
 ) -> Option<()> {
     let it = measure(rt, load, threads)?;
+    let name = if load.is_lent {
+        "wokhleas_lent"
+    } else {
+        "wokhleas"
+    };
     println!(rt;
-        "{} {threads} {} {} {}",
+        "{name} {} {threads} {} {} {}",
         load.known.len(),
         load.per_store,
         it.found,
@@ -237,6 +247,7 @@ fn print_rounds<R: Threads + Wait + Clock + Print + AllocGlobal + Sync>(
 fn print_load<R: Threads + Wait + Clock + Print + AllocGlobal + Sync>(
     rt: &R,
     known: &[Known],
+    is_lent: bool,
 ) -> Option<()> {
     let now = Moment::new(100)?;
     for per_store in PER_STORE {
@@ -245,6 +256,7 @@ fn print_load<R: Threads + Wait + Clock + Print + AllocGlobal + Sync>(
                 known,
                 now,
                 per_store,
+                is_lent,
             };
             print_rounds(rt, &load, threads)?;
         }
@@ -258,7 +270,8 @@ pub(crate) fn print_runs<R: Threads + Wait + Clock + Print + AllocGlobal + Sync>
 ) -> Option<()> {
     for (count, in_group) in QUESTIONS {
         let known = known_of(rt.alloc(), count, in_group)?;
-        print_load(rt, known.as_slice())?;
+        print_load(rt, known.as_slice(), false)?;
+        print_load(rt, known.as_slice(), true)?;
     }
     Some(())
 }

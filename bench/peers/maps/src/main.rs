@@ -37,7 +37,11 @@ struct Stored {
 
 impl Stored {
     fn alive(&self, now: u64) -> Option<Arc<Answer>> {
-        (now < self.moment + u64::from(self.answer.life)).then(|| Arc::clone(&self.answer))
+        self.lends(now).cloned()
+    }
+
+    fn lends(&self, now: u64) -> Option<&Arc<Answer>> {
+        (now < self.moment + u64::from(self.answer.life)).then_some(&self.answer)
     }
 }
 
@@ -46,6 +50,11 @@ trait Map: Sync {
     fn filled(known: &[(Key, Arc<Answer>)]) -> Self;
     fn find(&self, key: &Key, now: u64) -> Option<Arc<Answer>>;
     fn store(&self, key: &Key, stored: Stored);
+
+    /// Whether an answer is found, by the map's way of handing it out.
+    fn finds(&self, key: &Key, now: u64) -> bool {
+        self.find(key, now).is_some()
+    }
 }
 
 impl Map for DashMap<Key, Stored> {
@@ -101,6 +110,22 @@ impl Map for Frozen {
     fn store(&self, _: &Key, _: Stored) {}
 }
 
+/// The same, which lends what it finds.
+struct Lending(Frozen);
+
+impl Map for Lending {
+    fn filled(known: &[(Key, Arc<Answer>)]) -> Self {
+        Lending(Frozen::filled(known))
+    }
+    fn find(&self, key: &Key, now: u64) -> Option<Arc<Answer>> {
+        self.0.find(key, now)
+    }
+    fn store(&self, _: &Key, _: Stored) {}
+    fn finds(&self, key: &Key, now: u64) -> bool {
+        self.0.0.get(key).is_some_and(|stored| stored.lends(now).is_some())
+    }
+}
+
 fn pairs(known: &[(Key, Arc<Answer>)]) -> impl Iterator<Item = (Key, Stored)> + '_ {
     known.iter().map(|(key, answer)| {
         let answer = Arc::clone(answer);
@@ -146,7 +171,7 @@ fn work(map: &impl Map, seat: usize, known: &[(Key, Arc<Answer>)], per_store: us
     let mut ahead = per_store;
     for number in seat * (LOOKUPS / 4)..seat * (LOOKUPS / 4) + LOOKUPS {
         let (key, answer) = &known[number.wrapping_mul(7_919) % known.len()];
-        found += u64::from(map.find(key, NOW).is_some());
+        found += u64::from(map.finds(key, NOW));
         if ahead == 1 {
             let answer = Arc::clone(answer);
             map.store(key, Stored { answer, moment: NOW });
@@ -184,6 +209,7 @@ fn main() {
                 measure::<Mutex<LruCache<_, _>>>("mutex_lru", &known, per_store, threads);
                 if per_store == 0 {
                     measure::<Frozen>("frozen_map", &known, per_store, threads);
+                    measure::<Lending>("frozen_map_lent", &known, per_store, threads);
                 }
             }
         }
