@@ -43,6 +43,8 @@ pub(crate) trait Entry: Sized + Drop {
 }
 
 /// Why the one at an offset is not read where there is no memory for it.
+#[cold]
+#[inline(never)]
 fn refusal_at<E: Entry>(
     alloc: Global,
     bytes: &[u8],
@@ -74,6 +76,30 @@ fn settle(alloc: Global, bytes: &[u8], landings: &mut Landings)
     }
 }
 
+/// How many are read before room is made for more at once.
+const FIRST_ROOM: usize = 4;
+
+/// Makes room for three times as many as were read first, or for all that are still to come where
+/// these are fewer. Where there is no memory for that, each one asks for its own.
+#[cold]
+#[inline(never)]
+fn make_more_room<E: Entry>(entries: &mut Vec<E>, count: u16)
+    ensures { entries.new.items ≡ entries.old.items }
+{
+    let to_come = usize::from(count).saturating_sub(FIRST_ROOM);
+    let _ = entries.reserve_exact(to_come.min(3 * FIRST_ROOM));
+}
+
+/// Makes room for more at once, when the first few of so many were read.
+#[inline(always)]
+fn make_room<E: Entry>(entries: &mut Vec<E>, count: u16)
+    ensures { entries.new.items ≡ entries.old.items }
+{
+    if entries.len() == FIRST_ROOM {
+        make_more_room(entries, count);
+    }
+}
+
 /// Reads so many from an offset on into an empty list, and gives the offset after them.
 fn read_entries<E: Entry>(
     alloc: Global,
@@ -100,6 +126,7 @@ fn read_entries<E: Entry>(
     let mut offset = offset;
     for _ in 0..count {
         let place = entries.len();
+        make_room(entries, count);
         let Ok(()) = entries.push(E::unread(alloc)) else {
             return Err(refusal_at::<E>(alloc, bytes, landings, offset, asked));
         };

@@ -9,7 +9,7 @@ ghost use Rattle.dns_message.specs.declared.naptr.NaptrRecord as naptr;
 use crate::char_string::{CharString, char_string_at, push_string};
 use crate::datagram::{Datagram, TooLong};
 use crate::name::push_name;
-use crate::number::{push_u16, u16_at};
+use crate::number::{push_u16, two_u16_at};
 use crate::refusal::EntryRefusal;
 use dns_name::{Landings, Name, law_one_name_at_an_offset, read_name_into_by};
 use std::alloc::{AllocError, Global};
@@ -77,8 +77,9 @@ pub(crate) fn read_naptr(
         → (flags : List ℕ) × (end : ℕ) × CharStringAt bytes.now (offset + 4) flags end) }
 {
     law_one_name_at_an_offset();
-    rule.order = u16_at(bytes, offset).ok_or(EntryRefusal::Malformed)?;
-    rule.preference = u16_at(bytes, offset + 2).ok_or(EntryRefusal::Malformed)?;
+    let (order, preference) = two_u16_at(bytes, offset).ok_or(EntryRefusal::Malformed)?;
+    rule.order = order;
+    rule.preference = preference;
     let (flags, offset) = char_string_at(alloc, bytes, offset + 4)?;
     rule.flags = flags;
     let (services, offset) = char_string_at(alloc, bytes, offset)?;

@@ -17,6 +17,18 @@ pub(crate) fn u16_at(bytes: &[u8], offset: usize) -> Option<u16>
     }
 }
 
+/// Two numbers of two octets, one behind the other, at an offset.
+pub(crate) fn two_u16_at(bytes: &[u8], offset: usize) -> Option<(u16, u16)>
+    ensures { MatchOption result (length bytes.now < offset + 4)
+        (λ numbers. NumberAt w16 bytes.now offset numbers.0
+        × NumberAt w16 bytes.now (offset + 2) numbers.1) }
+{
+    match bytes.get(offset..)? {
+        [a, b, c, d, ..] => Some((u16::from_be_bytes([*a, *b]), u16::from_be_bytes([*c, *d]))),
+        _ => None,
+    }
+}
+
 /// The number of four octets at an offset.
 pub(crate) fn u32_at(bytes: &[u8], offset: usize) -> Option<u32>
     ensures { MatchOption result (length bytes.now < offset + 4)

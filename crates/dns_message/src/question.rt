@@ -9,7 +9,7 @@ use crate::datagram::{Datagram, TooLong};
 use crate::entry::Entry;
 use crate::kind::Kind;
 use crate::name::push_name;
-use crate::number::{push_u16, u16_at};
+use crate::number::{push_u16, two_u16_at};
 use crate::owner::AskedName;
 use crate::refusal::EntryRefusal;
 use dns_name::{
@@ -142,8 +142,9 @@ impl Entry for Asked {
         law_name_rests_before_its_end();
         law_one_name_at_an_offset();
         let offset = read_name_into_by(alloc, bytes, landings, offset, &mut self.name)?;
-        self.type_number = u16_at(bytes, offset).ok_or(EntryRefusal::Malformed)?;
-        self.class_number = u16_at(bytes, offset + 2).ok_or(EntryRefusal::Malformed)?;
+        let (type_number, class_number) = two_u16_at(bytes, offset).ok_or(EntryRefusal::Malformed)?;
+        self.type_number = type_number;
+        self.class_number = class_number;
         Ok(offset + 4)
     }
 }

@@ -158,11 +158,17 @@ fn check_end(found: usize, end: usize) -> Result<(), EntryRefusal>
     }
 }
 
-/// Puts data in the place of other data.
+/// Puts data in the place of other data. Where an address of IPv4 was there, as in a record that is
+/// still to be read, there is nothing to let go of.
+#[inline(always)]
 fn replace_data(rdata: &mut Rdata, newer: Rdata)
     ensures { rdata.new ≡ newer }
 {
-    *rdata = newer;
+    if let Rdata::Addr4(_) = rdata {
+        *rdata = newer;
+    } else {
+        *rdata = newer;
+    }
 }
 
 /// Reads the data of a server between two offsets over other data.
@@ -245,7 +251,12 @@ fn read_addr4(octets: &[u8], rdata: &mut Rdata) -> Result<(), EntryRefusal>
         (λ _. (rdata.new ≡ variant.Addr4 octets.now) × (length octets.now ≡ 4))
         (λ _. length octets.now ≢ 4) }
 {
-    replace_data(rdata, Rdata::Addr4(address_of(octets)?));
+    let address = address_of(octets)?;
+    if let Rdata::Addr4(place) = rdata {
+        *place = address;
+    } else {
+        replace_data(rdata, Rdata::Addr4(address));
+    }
     Ok(())
 }
 

@@ -1,8 +1,9 @@
 //! SRV records (RFC 2782).
-ghost use Rattle.std.specs.Prelude.{◌≡◌, ◌<◌, ◌≤◌, ℕ, length, ◌+◌, IfOk, IfErr, MatchResult, ◌++◌, OnOk, OnErr};
+ghost use Rattle.std.specs.Prelude.{◌≡◌, ◌<◌, ◌≤◌, ℕ, length, ◌+◌, IfOk, IfErr, MatchOption, MatchResult, ◌++◌, OnOk, OnErr};
 ghost use Rattle.dns_name.specs.Landings.{AreLandings};
 ghost use Rattle.dns_message.specs.Layouts.{SrvAt};
-ghost use Rattle.dns_message.specs.Offsets.{NamedAt};
+ghost use Rattle.std.specs.Int.{w16};
+ghost use Rattle.dns_message.specs.Offsets.{NumberAt, NamedAt};
 ghost use Rattle.dns_message.specs.Written.{srv_octets};
 ghost use Rattle.dns_message.specs.Fits.{SrvFits};
 ghost use Rattle.dns_message.specs.declared.srv.SrvRecord as srv;
@@ -51,6 +52,30 @@ impl SrvRecord {
     }
 }
 
+/// The numbers in front of the target of a server.
+#[derive(Clone, Copy)]
+struct Numbers {
+    priority: u16,
+    weight: u16,
+    port: u16,
+}
+
+/// These numbers, in six octets at an offset.
+fn numbers_at(bytes: &[u8], offset: usize) -> Option<Numbers>
+    requires { offset ≤ length bytes.now }
+    ensures { MatchOption result (length bytes.now < offset + 6)
+        (λ numbers. NumberAt w16 bytes.now offset numbers.priority
+        × NumberAt w16 bytes.now (offset + 2) numbers.weight
+        × NumberAt w16 bytes.now (offset + 4) numbers.port) }
+{
+    let octets = bytes.get(offset..offset + 6)?;
+    Some(Numbers {
+        priority: u16_at(octets, 0)?,
+        weight: u16_at(octets, 2)?,
+        port: u16_at(octets, 4)?,
+    })
+}
+
 /// Reads the record at an offset over another one, and gives the offset after it.
 pub(crate) fn read_srv(
     alloc: Global,
@@ -69,9 +94,10 @@ pub(crate) fn read_srv(
         → NamedAt bytes.now (offset + 6)) }
 {
     law_one_name_at_an_offset();
-    server.priority = u16_at(bytes, offset).ok_or(EntryRefusal::Malformed)?;
-    server.weight = u16_at(bytes, offset + 2).ok_or(EntryRefusal::Malformed)?;
-    server.port = u16_at(bytes, offset + 4).ok_or(EntryRefusal::Malformed)?;
+    let numbers = numbers_at(bytes, offset).ok_or(EntryRefusal::Malformed)?;
+    server.priority = numbers.priority;
+    server.weight = numbers.weight;
+    server.port = numbers.port;
     let end = read_name_into_by(alloc, bytes, landings, offset + 6, &mut server.target)?;
     Ok(end)
 }

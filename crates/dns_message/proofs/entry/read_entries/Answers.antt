@@ -21,7 +21,7 @@ loop-preserved g c =
     let entry = c.read_over.new.self in
     let read = c.in_ok-offset in
     let placed = set_at l.entries.items c.unread.result [] entry c.len-place.result (omega (arith, c.len-place.ensures)) in
-    rw (c.in-Ok.ensures.items, placed) (record {
+    rw (c.in-Ok.ensures.items, c.make_room.ensures, placed) (record {
       so_far = AllAt-push stands read.offset entry l.invariant.so_far read.ensures.found;
       follows = Follows-push stands c.args.offset l.offset read.offset entry l.entries.items l.invariant.follows read.ensures.read;
       count = length_push l.entries.items entry ∙ omega arith;

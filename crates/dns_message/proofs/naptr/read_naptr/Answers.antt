@@ -9,8 +9,8 @@ use Rattle.dns_message.proofs.naptr.read_naptr.Goals.{In_ok-end}
 
 abbrev rule_read : In_ok-end → NaptrRecord
 rule_read c = record {
-  order = c.in_ok-rule.field-0;
-  preference = c.in_ok-rule-2.field-0;
+  order = c.in_ok-order.order;
+  preference = c.in_ok-order.preference;
   flags = c.in_ok-flags.flags;
   services = c.in_ok-services.services;
   regexp = c.in_ok-regexp.regexp;
@@ -19,17 +19,19 @@ rule_read c = record {
 
 -- what was read stands there
 this : (c : In_ok-end) → NaptrAt c.args.bytes.now c.args.offset (rule_read c) c.in_ok-end.end
-this c = record {
-  services_start = c.in_ok-flags.offset;
-  regexp_start = c.in_ok-services.offset;
-  replacement_start = c.in_ok-regexp.offset;
-  order = rw c.in_ok-rule.ensures.ok_part at c.u16_at.ensures;
-  preference = rw c.in_ok-rule-2.ensures.ok_part at c.u16_at-2.ensures;
-  flags = c.in_ok-flags.ensures.found;
-  services = c.in_ok-services.ensures.found;
-  regexp = c.in_ok-regexp.ensures.found;
-  replacement = c.in_ok-end.ensures.found;
-}
+this c =
+    let numbers = rw c.in_ok-order.ensures.ok_part at c.two_u16_at.ensures in
+    record {
+      services_start = c.in_ok-flags.offset;
+      regexp_start = c.in_ok-services.offset;
+      replacement_start = c.in_ok-regexp.offset;
+      order = numbers.0;
+      preference = numbers.1;
+      flags = c.in_ok-flags.ensures.found;
+      services = c.in_ok-services.ensures.found;
+      regexp = c.in_ok-regexp.ensures.found;
+      replacement = c.in_ok-end.ensures.found;
+    }
 
 pub returns-clause-found : goal.returns-clause-found
 returns-clause-found c = this c

@@ -1,5 +1,5 @@
 use Rattle.std.proofs.Common.{◌≡◌, ℕ, List, length, slice_range, sym, ap, ◌∙◌}
-use Rattle.std.proofs.lemmas.Result.{err_from_is_err_and, MatchResult-weaker}
+use Rattle.std.proofs.lemmas.Result.{MatchResult-weaker}
 use Rattle.dns_message.specs.Data.{data_format}
 use Rattle.dns_message.specs.declared.rdata.Rdata.TheVariants.{Addr4, Addr6, Other}
 use Rattle.dns_message.proofs.Layouts.{format_goes_on, format_within}

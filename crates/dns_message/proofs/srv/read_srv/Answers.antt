@@ -9,22 +9,25 @@ use Rattle.dns_message.proofs.srv.read_srv.Goals.{In_ok-end}
 
 abbrev server_read : In_ok-end → SrvRecord
 server_read c =
+    let numbers = c.in_ok-numbers.numbers in
     record {
-      priority = c.in_ok-server.field-0;
-      weight = c.in_ok-server-2.field-0;
-      port = c.in_ok-server-3.field-0;
+      priority = numbers.priority;
+      weight = numbers.weight;
+      port = numbers.port;
       target =
           c.read_name_into_by.new.name;
     }
 
 -- what was read stands there
 this : (c : In_ok-end) → SrvAt c.args.bytes.now c.args.offset (server_read c) c.in_ok-end.end
-this c = record {
-  priority = rw c.in_ok-server.ensures.ok_part at c.u16_at.ensures;
-  weight = rw c.in_ok-server-2.ensures.ok_part at c.u16_at-2.ensures;
-  port = rw c.in_ok-server-3.ensures.ok_part at c.u16_at-3.ensures;
-  target = c.in_ok-end.ensures.found;
-}
+this c =
+    let numbers = rw c.in_ok-numbers.ensures.ok_part at c.numbers_at.ensures in
+    record {
+      priority = numbers.0;
+      weight = numbers.1;
+      port = numbers.2;
+      target = c.in_ok-end.ensures.found;
+    }
 
 pub returns-clause-found : goal.returns-clause-found
 returns-clause-found c = this c

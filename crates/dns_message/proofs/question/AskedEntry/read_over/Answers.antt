@@ -5,32 +5,34 @@ use Rattle.dns_message.specs.Refusals.{refusal_of_name}
 use Rattle.dns_message.specs.declared.question.Asked.{Asked}
 use Rattle.dns_message.proofs.Questions.{one_question}
 use Rattle.dns_message.proofs.question.AskedEntry.read_over.Goals as goal
-use Rattle.dns_message.proofs.question.AskedEntry.read_over.Goals.{In_ok-self-2}
+use Rattle.dns_message.proofs.question.AskedEntry.read_over.Goals.{In_ok-type_number}
 
-abbrev question_read : In_ok-self-2 → Asked
+abbrev question_read : In_ok-type_number → Asked
 question_read c = record {
   name = c.read_name_into_by.new.name;
-  type_number = c.in_ok-self.field-0;
+  type_number = c.in_ok-type_number.type_number;
   class_number =
-      c.in_ok-self-2.field-0;
+      c.in_ok-type_number.class_number;
 }
 
 -- what was read stands there
-this : (c : In_ok-self-2) → QuestionAt c.args.bytes.now c.args.offset (question_read c) (c.in_ok-offset.offset + 4)
-this c = record {
-  after = c.in_ok-offset.offset;
-  name = c.in_ok-offset.ensures.found;
-  type_number = rw c.in_ok-self.ensures.ok_part at c.u16_at.ensures;
-  class_number = rw c.in_ok-self-2.ensures.ok_part at c.u16_at-2.ensures;
-  ends = refl;
-}
+this : (c : In_ok-type_number) → QuestionAt c.args.bytes.now c.args.offset (question_read c) (c.in_ok-offset.offset + 4)
+this c =
+    let numbers = rw c.in_ok-type_number.ensures.ok_part at c.two_u16_at.ensures in
+    record {
+      after = c.in_ok-offset.offset;
+      name = c.in_ok-offset.ensures.found;
+      type_number = numbers.0;
+      class_number = numbers.1;
+      ends = refl;
+    }
 
 pub returns-clause-found : goal.returns-clause-found
-returns-clause-found c = this (goal.at.returns-clause-found c).In_ok-self-2
+returns-clause-found c = this (goal.at.returns-clause-found c).In_ok-type_number
 
 pub returns-clause-read : goal.returns-clause-read
 returns-clause-read c = λ question end there.
-    let here = (goal.at.returns-clause-read c).In_ok-self-2 in
+    let here = (goal.at.returns-clause-read c).In_ok-type_number in
     one_question c.law_one_name_at_an_offset.ensures c.args.bytes.now c.args.offset (c.in_ok-offset.offset + 4) end
     (question_read here) question (this here) there
 
