@@ -40,6 +40,7 @@ pub struct Message {
 /// is ignored.
 ///
 /// Memory is taken as questions and records are read, and never for a count of the header.
+#[inline(always)]
 pub fn read_message(alloc: Global, bytes: &[u8]) -> Result<Message, MessageRefusal>
     // What is read stands in front of the octets.
     ensures found { IfOk result (λ found.
@@ -66,6 +67,9 @@ pub fn read_message(alloc: Global, bytes: &[u8]) -> Result<Message, MessageRefus
     let (header, counts) = header_at(bytes).ok_or(MessageRefusal::Malformed(Part::Header))?;
     let mut landings = Landings::none(alloc);
     let mut questions = Vec::new(alloc);
+    let mut answers = Vec::new(alloc);
+    let mut authority = Vec::new(alloc);
+    let mut additional = Vec::new(alloc);
     let offset = read_section(
         alloc,
         bytes,
@@ -77,7 +81,6 @@ pub fn read_message(alloc: Global, bytes: &[u8]) -> Result<Message, MessageRefus
         &mut questions,
     )?;
     let asked = AskedName::of(&questions, offset);
-    let mut answers = Vec::new(alloc);
     let offset = read_section(
         alloc,
         bytes,
@@ -88,7 +91,6 @@ pub fn read_message(alloc: Global, bytes: &[u8]) -> Result<Message, MessageRefus
         asked,
         &mut answers,
     )?;
-    let mut authority = Vec::new(alloc);
     let offset = read_section(
         alloc,
         bytes,
@@ -99,7 +101,6 @@ pub fn read_message(alloc: Global, bytes: &[u8]) -> Result<Message, MessageRefus
         asked,
         &mut authority,
     )?;
-    let mut additional = Vec::new(alloc);
     let _ = read_section(
         alloc,
         bytes,
