@@ -1,5 +1,5 @@
 //! Names as texts (RFC 1035 5.1).
-ghost use Rattle.std.specs.Prelude.{◌≡◌, ◌∷◌, ◌++◌, ◌+◌, ◌≤◌, ◌<◌, [], List, ℕ, length, map, take, drop, IfOk, IfErr, OnOk, IfSome, IsSomeAnd, Some, None, MatchResult, ◌⊎◌};
+ghost use Rattle.std.specs.Prelude.{◌≡◌, ◌∷◌, ◌++◌, ◌+◌, ◌≤◌, ◌<◌, [], List, ℕ, length, map, take, drop, IfOk, IfErr, OnOk, OnErr, IfSome, IsSomeAnd, Some, None, MatchResult, ◌⊎◌};
 ghost use Rattle.std.specs.Result.{result_err};
 ghost use Rattle.std.specs.List.{list_all};
 ghost use Rattle.std.specs.String.{string_bytes};
@@ -146,6 +146,34 @@ fn name_of(alloc: Global, text: &[u8]) -> Result<Name, AllocError>
     Ok(Name::from_wire(Octets::inline(alloc, octets, text.len() + 2)))
 }
 
+/// Puts the octets of the labels with dots between them in place of others.
+#[inline(always)]
+fn put_name(octets: &mut Octets, text: &[u8])
+    requires { length text.now + 2 ≤ 31 }
+    ensures { octets.new ≡ wire_of (map small_letters (spec.parted text.now)) }
+{
+    octets.heap = Vec::new(octets.allocator());
+    octets.inline = [0; INLINE_LIMIT];
+    put_labels(&mut octets.inline, text);
+    octets.length = (text.len() + 2) as u8;
+}
+
+/// Makes a name that of the labels with dots between them. After an error it is as before.
+#[inline(always)]
+fn make_name(name: &mut Name, text: &[u8]) -> Result<(), AllocError>
+    requires { spec.dotted_fault (spec.parted text.now) ≡ None }
+    ensures ok { OnOk result
+        (wire_of name.new ≡ wire_of (map small_letters (spec.parted text.now))) }
+    ensures err { OnErr result (name.new ≡ name.old) }
+{
+    if text.len() + 2 > INLINE_LIMIT {
+        *name = long_name_of(name.allocator(), text)?;
+        return Ok(());
+    }
+    put_name(&mut name.octets, text);
+    Ok(())
+}
+
 /// A text without its closing dot, if it has one.
 fn without_closing_dot(text: &[u8]) -> &[u8]
     ensures { result.now ≡ spec.without_closing_dot text.now }
@@ -221,6 +249,24 @@ impl Name {
             return Ok(Name::root(alloc));
         }
         name_of(alloc, without_closing_dot(octets))
+    }
+
+    /// Makes the name that of octets that were found to be a hostname, or another text of a name.
+    /// So the octets of a name within a value are written where they stay: a copy of octets that
+    /// were just written one by one has to wait for them. After an error the name is as before.
+    #[inline(always)]
+    pub fn copy_hostname(&mut self, octets: &[u8]) -> Result<(), AllocError>
+        requires { (name : List (List ℕ)) × spec.TextOf name octets.now }
+        // It is the name of the octets, which have no other one.
+        ensures ok { (name : List (List ℕ)) → spec.TextOf name octets.now
+            → OnOk result (self.new ≡ name) }
+        ensures err { OnErr result (self.new ≡ self.old) }
+    {
+        if octets == b".".as_slice() {
+            *self = Name::root(self.allocator());
+            return Ok(());
+        }
+        make_name(self, without_closing_dot(octets))
     }
 
     /// The name with two labels in front, as `_sip` and `_udp` in front of a domain (RFC 2782).

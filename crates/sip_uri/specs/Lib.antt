@@ -1,3 +1,4 @@
+pub mod Blanks
 pub mod Classes
 pub mod Hosts
 pub mod Readers

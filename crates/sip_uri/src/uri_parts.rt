@@ -1,12 +1,16 @@
 //! Views of URIs: URIs as they stand in a text (RFC 3261 19.1.1, 25.1).
-ghost use Rattle.std.specs.Prelude.{◌≡◌, IfOk, IfSome, OnErr, unwrap_or};
+ghost use Rattle.std.specs.Prelude.{◌≡◌, IfOk, IfSome, OnOk, OnErr, Some, unwrap_or};
 ghost use Rattle.std.specs.Option.{option_map};
 ghost use Rattle.sip_uri.specs.Readers.Hosts as host;
 ghost use Rattle.sip_uri.specs.Readers.Uris as spec;
 ghost use Rattle.sip_uri.specs.Uris.{IsNamedUri};
-ghost use Rattle.sip_uri.specs.Views.{host_of, uri_of, IsHostView, IsUriView};
+ghost use Rattle.sip_uri.specs.Hosts.{DomainText, IsNamed};
+ghost use Rattle.sip_uri.specs.Views.{name_of, host_of, uri_of, IsHostView, IsUriView};
+ghost use Rattle.sip_uri.specs.Blanks.{blank_of, uri_with};
+ghost use Rattle.sip_uri.specs.declared.host.Host.TheVariants.{Domain};
 
 use crate::headers::are_headers;
+use crate::host::Host;
 use crate::host_part::HostPart;
 use crate::params::check_params;
 use crate::place::{behind_place, place_of};
@@ -14,6 +18,7 @@ use crate::refusal::UriRefusal;
 use crate::transport::{Spoken, spoken_of};
 use crate::uri::SipUri;
 use crate::userinfo::is_userinfo;
+use dns_name::Name;
 use ip_text::next_part;
 use std::alloc::{AllocError, Global};
 
@@ -43,6 +48,20 @@ impl<'a> UriParts<'a> {
         self.maddr.unwrap_or(self.host)
     }
 
+    /// The URI with these hosts.
+    #[inline(always)]
+    pub(crate) fn with_hosts(self, host: Host, maddr: Option<Host>) -> SipUri
+        ensures { result ≡ uri_with self.entry host maddr }
+    {
+        SipUri {
+            secure: self.secure,
+            host,
+            port: self.port,
+            transport: self.transport,
+            maddr,
+        }
+    }
+
     /// The URI, with memory for the names of its hosts.
     #[inline(always)]
     pub fn to_uri(self, alloc: Global) -> Result<SipUri, AllocError>
@@ -57,13 +76,60 @@ impl<'a> UriParts<'a> {
             None => None,
             Some(maddr) => Some(maddr.to_host(alloc)?),
         };
-        Ok(SipUri {
-            secure: self.secure,
-            host,
-            port: self.port,
-            transport: self.transport,
-            maddr,
-        })
+        Ok(self.with_hosts(host, maddr))
+    }
+}
+
+/// The host of a view, where the name of a hostname is still that of the root.
+#[inline(always)]
+pub(crate) fn blank_host(alloc: Global, part: HostPart<'_>) -> Host
+    ensures { result ≡ blank_of part.entry }
+{
+    match part {
+        HostPart::V4(address) => Host::V4(address.octets),
+        HostPart::V6(address) => Host::V6(address.octets),
+        HostPart::Domain(_) => Host::Domain(Name::root(alloc)),
+    }
+}
+
+/// Makes the name of a host that of a hostname.
+#[inline(always)]
+pub(crate) fn name_host(host: &mut Host, hostname: &[u8]) -> Result<(), AllocError>
+    requires named { IsNamed host.old }
+    requires text { DomainText hostname.now (name_of hostname.now) }
+    ensures { OnOk result (host.new ≡ Domain (name_of hostname.now)) }
+{
+    match host {
+        Host::Domain(name) => name.copy_hostname(hostname),
+        _ => Ok(()),
+    }
+}
+
+/// Makes a blank host the one of its view.
+#[inline(always)]
+pub(crate) fn fill_host(host: &mut Host, part: HostPart<'_>) -> Result<(), AllocError>
+    requires blank { host.old ≡ blank_of part }
+    requires view { IsHostView part }
+    ensures host { OnOk result (host.new ≡ host_of part.entry) }
+    ensures memory { OnErr result (IsNamed (host_of part.entry)) }
+{
+    match part {
+        HostPart::Domain(hostname) => name_host(host, hostname),
+        _ => Ok(()),
+    }
+}
+
+/// Makes a blank host, where there is one, the one of its view.
+#[inline(always)]
+pub(crate) fn fill_maddr(maddr: &mut Option<Host>, part: HostPart<'_>) -> Result<(), AllocError>
+    requires blank { maddr.old ≡ Some (blank_of part) }
+    requires view { IsHostView part }
+    ensures host { OnOk result (maddr.new ≡ Some (host_of part.entry)) }
+    ensures memory { OnErr result (IsNamed (host_of part.entry)) }
+{
+    match maddr {
+        Some(host) => fill_host(host, part),
+        None => Ok(()),
     }
 }
 
