@@ -1,10 +1,10 @@
 -- A text, cut at an octet: what its front and its back are, and what they are of a text that is joined.
-use Rattle.std.proofs.Common.{◌≡◌, ℕ, ◌+◌, ◌<◌, ◌≤◌, Bool, true, false, not, List, [], ◌∷◌, ◌++◌, length, take, drop, get_or, append_assoc, Option, Some, None, refl, sym, ap, ◌∙◌, inl, inr, arith, eqb}
+use Rattle.std.proofs.Common.{◌≡◌, ℕ, zero, suc, ◌+◌, ◌<◌, ◌≤◌, Bool, true, false, not, List, [], ◌∷◌, ◌++◌, length, take, drop, get_or, append_assoc, Option, Some, None, refl, sym, ap, ◌∙◌, inl, inr, arith, eqb}
 use Rattle.std.specs.List.{list_all, slice_split, join_with_byte, AllByRecursion}
 use Rattle.std.proofs.lemmas.Bool.Decides.{nat_tests}
 use Rattle.std.proofs.lemmas.Bool.{cases_Bool}
 use Rattle.std.proofs.lemmas.List.{append-nil, length-append, drop_more, take_more, drop_all, take_all}
-use Rattle.ip_text.specs.Parts.{before, behind, parted}
+use Rattle.ip_text.specs.Parts.{before, behind, parted, Lacks}
 
 -- no octet of the text is this one
 abbrev pub lacks : ℕ → List ℕ → Bool
@@ -122,6 +122,18 @@ module _ (octet : ℕ) (text : List ℕ) (at : ℕ) (passed : Passed octet text 
       let none : drop at text ≡ [] = drop_all at text all in
       let whole : take at text ≡ text = take_all at text all in
       (sym (append-nil text) ∙ rw (none, whole) at passed.front, rw none at passed.back)
+
+-- and to a place farther on
+pub goes_far : (octet : ℕ) (text : List ℕ) (at count to : ℕ) → Passed octet text at → at + count ≡ to → to ≤ length text
+    → Lacks octet text at count → Passed octet text to
+goes_far octet text at zero to passed sum within none =
+    let same : at ≡ to = omega arith in
+    rw same at passed
+goes_far octet text at (suc count) to passed sum within none =
+    let so_far = goes_far octet text at count (at + count) passed refl (omega arith) (λ k from before. none k from (omega arith)) in
+    let next = goes_on octet text (at + count) so_far (omega arith) (λ is. none (at + count) (omega arith) (omega arith) is) in
+    let same : at + count + 1 ≡ to = omega arith in
+    rw same at next
 
 -- a front that lacks the octet, and the octet and what follows it, or nothing
 pub cut_back : (octet : ℕ) (front : List ℕ) (rest : Option (List ℕ)) → lacks octet front ≡ true

@@ -1,5 +1,5 @@
 -- A text, cut at an octet.
-use Rattle.std.specs.Prelude.{ℕ, ◌==◌, Bool, cond, List, [], ◌∷◌, Option, Some, None}
+use Rattle.std.specs.Prelude.{◌≡◌, ℕ, ◌+◌, ◌≤◌, ◌<◌, slice_index, ◌==◌, Bool, cond, List, [], ◌∷◌, Option, Some, None}
 use Rattle.std.specs.List.{slice_split}
 
 -- what stands before the first octet of a kind
@@ -11,6 +11,10 @@ before octet (x ∷ xs) = cond (x == octet) [] (x ∷ before octet xs)
 abbrev pub behind : ℕ → List ℕ → Option (List ℕ)
 behind octet [] = None
 behind octet (x ∷ xs) = cond (x == octet) (Some xs) (behind octet xs)
+
+-- none of so many octets from a place on is of a kind
+abbrev pub Lacks : ℕ → List ℕ → ℕ → ℕ → Type 0
+Lacks octet text at count = (k : ℕ) → at ≤ k → k < at + count → slice_index text k ≡ octet → ⊥
 
 -- what follows an octet, where it stands in front
 abbrev pub behind_front : ℕ → List ℕ → Option (List ℕ)

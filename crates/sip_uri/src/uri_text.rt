@@ -1,4 +1,8 @@
 //! The reader of URIs (RFC 3261 19.1.1, 25.1).
+//!
+//! A URI that is read is put together where it stays, and the octets of its names are written
+//! there: octets that were just written one by one have to be waited for where they are moved. Each
+//! way out of `read_uri` hands on its URI by itself, so that it is moved once.
 ghost use Rattle.std.specs.Prelude.{◌≡◌, ◌↔◌, ◌<◌, ◌≤◌, length, IfOk, IfErr, IsOkAnd, MatchResult, Err, Some};
 ghost use Rattle.sip_uri.specs.Uris.{UriText, HasScheme, IsNamedUri};
 ghost use Rattle.sip_uri.specs.Views.{uri_of, IsUriView};
@@ -44,11 +48,7 @@ pub fn view_uri(octets: &[u8]) -> Result<UriParts<'_>, UriRefusal>
 
 /// The URI that a view with `maddr` means, with memory for the names of its hosts.
 #[inline(always)]
-fn read_hosts(
-    alloc: Global,
-    parts: UriParts<'_>,
-    maddr: HostPart<'_>,
-) -> Result<SipUri, UriRefusal>
+fn read_hosts(alloc: Global, parts: UriParts<'_>, maddr: HostPart<'_>) -> Result<SipUri, UriRefusal>
     requires view { IsUriView parts }
     requires maddr { parts.maddr ≡ Some maddr }
     ensures uri { IfOk result (λ uri. uri ≡ uri_of parts.entry) }

@@ -1,22 +1,13 @@
-use Rattle.std.proofs.Common.{◌+◌, Some, ap, ◌∙◌}
-use Rattle.std.proofs.lemmas.List.{take_rest}
-use Rattle.ip_text.proofs.Cutting.{found_here, goes_on, found_nowhere}
+use Rattle.std.proofs.Common.{◌+◌, ◌≤◌, length, refl, arith}
+use Rattle.ip_text.proofs.Cutting.{goes_far}
 use Rattle.ip_text.proofs.parts.next_part.Goals as goal
 
 pub loop-at-preserved : goal.loop-at-preserved
-loop-at-preserved c = goes_on c.args.octet c.args.text.now c.loop-at.at c.loop-at.invariant c.loop-at-test.true c.if-other-octet.false
-
-pub returns-then-other-octet-clause-front : goal.returns-then-other-octet-clause-front
-returns-then-other-octet-clause-front c =
-    (found_here c.args.octet c.args.text.now c.loop-at.at c.loop-at.invariant c.loop-at-test.true c.if-other-octet.true).0
-
-pub returns-then-other-octet-clause-back : goal.returns-then-other-octet-clause-back
-returns-then-other-octet-clause-back c =
-    ap Some (take_rest c.args.text.now (c.loop-at.at + 1)) ∙
-    (found_here c.args.octet c.args.text.now c.loop-at.at c.loop-at.invariant c.loop-at-test.true c.if-other-octet.true).1
-
-pub returns-clause-front : goal.returns-clause-front
-returns-clause-front c = (found_nowhere c.args.octet c.args.text.now c.loop-at.at c.loop-at.invariant c.loop-at-test.false).0
-
-pub returns-clause-back : goal.returns-clause-back
-returns-clause-back c = (found_nowhere c.args.octet c.args.text.now c.loop-at.at c.loop-at.invariant c.loop-at-test.false).1
+loop-at-preserved c =
+    let so_far = c.loop-at.invariant in
+    let within : c.loop-at.at + 8 ≤ length c.args.text.now = omega (arith, c.loop-at-test.true, so_far.within) in
+    record {
+      within = within;
+      passed = goes_far c.args.octet c.args.text.now c.loop-at.at 8 (c.loop-at.at + 8) so_far.passed refl within
+          (c.lacks_eight.ensures c.if-lacks_eight.true);
+    }

@@ -22,7 +22,8 @@ pub returns-in-Some-clause-read : goal.returns-in-Some-clause-read
 returns-in-Some-clause-read c =
     let seen : (uri : SipUri) → UriText c.args.text.now uri → uri_of c.in_ok-parts.parts ≡ uri =
     rw c.as_bytes.ensures.value at c.in_ok-parts.ensures.seen in
-    λ uri spells. read c.read_hosts.result (uri_of c.in_ok-parts.parts) uri c.read_hosts.ensures.uri c.read_hosts.ensures.memory (seen uri spells)
+    let read_is = read c.read_hosts.result (uri_of c.in_ok-parts.parts) in
+    λ uri spells. read_is uri c.read_hosts.ensures.uri c.read_hosts.ensures.memory (seen uri spells)
 
 pub returns-in-V4-clause-read : goal.returns-in-V4-clause-read
 returns-in-V4-clause-read c =

@@ -45,6 +45,7 @@ make_name-requires c = rw c.without_closing_dot.ensures (faultless (goal.at.make
 pub returns-clause-ok : goal.returns-clause-ok
 returns-clause-ok c = λ name text_of.
     let is = (labels_of (goal.at.returns-clause-ok c).Else-eq name text_of).is in
-    let made : wire_of c.make_name.new.name ≡ wire_of (map small_letters (parted (without_closing_dot c.args.octets.now))) → c.make_name.new.name ≡ name =
-    λ spelled. same_labels c.make_name.new.name (map small_letters (parted (without_closing_dot c.args.octets.now))) spelled ∙ sym is in
+    let labels : List (List ℕ) = map small_letters (parted (without_closing_dot c.args.octets.now)) in
+    let made : wire_of c.make_name.new.name ≡ wire_of labels → c.make_name.new.name ≡ name =
+    λ spelled. same_labels c.make_name.new.name labels spelled ∙ sym is in
     on_ok_weaker c.make_name.result (λ spelled. made (rw c.without_closing_dot.ensures at spelled)) c.make_name.ensures.ok
