@@ -1,5 +1,5 @@
 //! Views of URIs: URIs as they stand in a text (RFC 3261 19.1.1, 25.1).
-ghost use Rattle.std.specs.Prelude.{◌≡◌, IfOk, IfSome, OnOk, OnErr, Some, unwrap_or};
+ghost use Rattle.std.specs.Prelude.{◌≡◌, IfOk, IfSome, OnOk, OnErr, Some, None, [], unwrap_or};
 ghost use Rattle.std.specs.Option.{option_map};
 ghost use Rattle.sip_uri.specs.Readers.Hosts as host;
 ghost use Rattle.sip_uri.specs.Readers.Uris as spec;
@@ -7,8 +7,9 @@ ghost use Rattle.sip_uri.specs.Uris.{IsNamedUri};
 ghost use Rattle.sip_uri.specs.Hosts.{DomainText, IsNamed};
 ghost use Rattle.sip_uri.specs.Views.{name_of, host_of, uri_of, IsHostView, IsUriView};
 ghost use Rattle.sip_uri.specs.Blanks.{blank_of, uri_with};
-ghost use Rattle.sip_uri.specs.declared.host.Host.TheVariants.{Domain};
+ghost use Rattle.sip_uri.specs.declared.host.Host.TheVariants.{V4, V6, Domain};
 
+use crate::address_octets::{V4Octets, V6Octets};
 use crate::headers::are_headers;
 use crate::host::Host;
 use crate::host_part::HostPart;
@@ -60,6 +61,30 @@ impl<'a> UriParts<'a> {
             transport: self.transport,
             maddr,
         }
+    }
+
+    /// The URI with this IPv4 address for its host, and without `maddr`.
+    #[inline(always)]
+    pub(crate) fn with_v4(self, address: V4Octets) -> SipUri
+        ensures { result ≡ uri_with self.entry (V4 address.octets) None }
+    {
+        self.with_hosts(Host::V4(address.octets), None)
+    }
+
+    /// The URI with this IPv6 address for its host, and without `maddr`.
+    #[inline(always)]
+    pub(crate) fn with_v6(self, address: V6Octets) -> SipUri
+        ensures { result ≡ uri_with self.entry (V6 address.octets) None }
+    {
+        self.with_hosts(Host::V6(address.octets), None)
+    }
+
+    /// The URI with the root for its host, and without `maddr`.
+    #[inline(always)]
+    pub(crate) fn with_root(self, alloc: Global) -> SipUri
+        ensures { result ≡ uri_with self.entry (Domain []) None }
+    {
+        self.with_hosts(Host::Domain(Name::root(alloc)), None)
     }
 
     /// The URI, with memory for the names of its hosts.

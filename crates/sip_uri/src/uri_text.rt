@@ -8,12 +8,10 @@ ghost use Rattle.sip_uri.specs.Uris.{UriText, HasScheme, IsNamedUri};
 ghost use Rattle.sip_uri.specs.Views.{uri_of, IsUriView};
 ghost use Rattle.sip_uri.specs.declared.uri.SipUri.{SipUri};
 
-use crate::host::Host;
 use crate::host_part::HostPart;
 use crate::refusal::UriRefusal;
 use crate::uri::SipUri;
 use crate::uri_parts::{UriParts, blank_host, fill_host, fill_maddr, name_host, uri_parts};
-use dns_name::Name;
 use std::alloc::Global;
 
 /// The most octets of a text that is read.
@@ -92,10 +90,10 @@ pub fn read_uri(alloc: Global, text: &str) -> Result<SipUri, UriRefusal>
         return read_hosts(alloc, parts, maddr);
     }
     match parts.host {
-        HostPart::V4(address) => return Ok(parts.with_hosts(Host::V4(address.octets), None)),
-        HostPart::V6(address) => return Ok(parts.with_hosts(Host::V6(address.octets), None)),
+        HostPart::V4(address) => return Ok(parts.with_v4(address)),
+        HostPart::V6(address) => return Ok(parts.with_v6(address)),
         HostPart::Domain(hostname) => {
-            let mut uri = parts.with_hosts(Host::Domain(Name::root(alloc)), None);
+            let mut uri = parts.with_root(alloc);
             match name_host(&mut uri.host, hostname) {
                 Ok(_) => return Ok(uri),
                 Err(_) => return Err(UriRefusal::Memory),

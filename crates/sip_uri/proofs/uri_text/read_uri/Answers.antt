@@ -29,14 +29,14 @@ pub returns-in-V4-clause-read : goal.returns-in-V4-clause-read
 returns-in-V4-clause-read c =
     let seen : (uri : SipUri) → UriText c.args.text.now uri → uri_of c.in_ok-parts.parts ≡ uri =
     rw c.as_bytes.ensures.value at c.in_ok-parts.ensures.seen in
-    let is : c.with_hosts.result ≡ uri_of c.in_ok-parts.parts = search rules in
+    let is : c.with_v4.result ≡ uri_of c.in_ok-parts.parts = search rules in
     λ uri spells. is ∙ seen uri spells
 
 pub returns-in-V6-clause-read : goal.returns-in-V6-clause-read
 returns-in-V6-clause-read c =
     let seen : (uri : SipUri) → UriText c.args.text.now uri → uri_of c.in_ok-parts.parts ≡ uri =
     rw c.as_bytes.ensures.value at c.in_ok-parts.ensures.seen in
-    let is : c.with_hosts-in-V6.result ≡ uri_of c.in_ok-parts.parts = search rules in
+    let is : c.with_v6.result ≡ uri_of c.in_ok-parts.parts = search rules in
     λ uri spells. is ∙ seen uri spells
 
 pub returns-in-Ok-clause-read : goal.returns-in-Ok-clause-read
@@ -44,10 +44,10 @@ returns-in-Ok-clause-read c =
     let seen : (uri : SipUri) → UriText c.args.text.now uri → uri_of c.in_ok-parts.parts ≡ uri =
     rw c.as_bytes.ensures.value at c.in_ok-parts.ensures.seen in
     let is : ◌≡◌ {A = SipUri} record {
-      secure = c.with_hosts-uri.result.secure;
+      secure = c.with_root-uri.result.secure;
       host = c.name_host.new.host;
-      port = c.with_hosts-uri.result.port;
-      transport = c.with_hosts-uri.result.transport;
-      maddr = c.with_hosts-uri.result.maddr;
+      port = c.with_root-uri.result.port;
+      transport = c.with_root-uri.result.transport;
+      maddr = c.with_root-uri.result.maddr;
     } (uri_of c.in_ok-parts.parts) = search rules in
     λ uri spells. is ∙ seen uri spells
