@@ -209,16 +209,6 @@ pub ok-both : {X E : Type 0} (P Q R : X → Type 0) → ((x : X) → P x → Q x
 ok-both P Q R each (Ok x) first second = each x first second
 ok-both P Q R each (Err e) first second = tt
 
--- what follows from one thing that holds, and from three
-pub ok-from : {X E : Type 0} {P Q : X → Type 0} (result : Result X E) → IfOk result P → ((x : X) → P x → Q x) → IfOk result Q
-ok-from (Ok x) is each = each x is
-ok-from (Err e) is each = tt
-
-pub ok-from_three : {X E : Type 0} {P Q R S : X → Type 0} (result : Result X E) → IfOk result P → IfOk result Q → IfOk result R
-    → ((x : X) → P x → Q x → R x → S x) → IfOk result S
-ok-from_three (Ok x) first second third each = each x first second third
-ok-from_three (Err e) first second third each = tt
-
 abbrev pub AlongLeft : Type 0
 AlongLeft = List Given → Result Transport Reason → List Target → Needing Settled
 

@@ -225,58 +225,6 @@ pub enum Choice {
     Asks(Box<Selection>),
 }
 
-/// A step, and the targets and the answers that were found before it. The answers are kept only
-/// where a question is asked.
-#[inline(always)]
-fn found_with(
-    alloc: Global,
-    walk: Walk<'_>,
-    step: Step,
-) -> Result<(Step, Vec<Target>, Known), AllocError>
-    ensures step { IfOk result (λ found. found.0 ≡ step) }
-    ensures targets { IfOk result (λ found. found.1 ≡ walk.entry.targets) }
-    ensures known { IfOk result (λ found. IsAsking step → found.2 ≡ walk.entry.known) }
-    ensures memory { OnErr result (IsAsking step) }
-{
-    match &step {
-        Step::Found | Step::Refused(_) => Ok((step, walk.targets, Known::new(alloc))),
-        Step::Ask(_, _) => {
-            let (targets, known) = walk.behind(0)?;
-            Ok((step, targets, known))
-        }
-    }
-}
-
-/// What a choice over a source begins with, and the targets and the answers that are found.
-#[inline(always)]
-fn begun_over<'s, S: AnswerSource>(
-    known: &'s Known,
-    alloc: Global,
-    request: &RequestView<'_>,
-    caps: &Caps,
-    words: &RandomWords<'_>,
-    source: &'s S,
-    seat: &mut S::Seat,
-) -> Result<(Step, Vec<Target>, Known), AllocError>
-    requires none { known.now ≡ [] }
-    requires ready { S.ready source.now seat.old }
-    requires view { IsRequestView request.now }
-    ensures begun { (given : List Given) × Consulted (S.ready source.now) S.goes
-        (S.says source.now) (begun (request_of request.now) caps.now (words_of words.now)) seat.old
-        seat.new
-        given
-        × IfOk result (λ found.
-        StandsAt (asked_with (request_of request.now) caps.now (words_of words.now) given) found.0
-        found.1.items × (IsAsking found.0 → found.2 ≡ given)) }
-    ensures lacks { IfOk result (λ found. StepLacks (S.says source.now seat.new) found.0) }
-    ensures memory { OnErr result
-        (IsNotRefused (now_of (begun (request_of request.now) caps.now (words_of words.now)))) }
-{
-    let mut walk = Walk::after(alloc, known);
-    let step = begin(&mut walk, seat, source, alloc, request, caps, words)?;
-    found_with(alloc, walk, step)
-}
-
 /// The choice where these targets are all that were found.
 fn choice_of(targets: Vec<Target>) -> Choice
     ensures is { (it : SelectionValue) → now_of it ≡ settled (Ok targets.items)
@@ -377,9 +325,20 @@ impl Selection {
         ensures memory { OnErr result
             (IsNotRefused (now_of (begun request caps (words_of words.now)))) }
     {
-        let (view, none) = (RequestView::Read(&request), Known::new(alloc));
-        let (step, targets, _) = begun_over(&none, alloc, &view, &caps, words, &NoSource, &mut ())?;
-        Selection::at_step(alloc, request, caps, words, targets, none, step)
+        let none = Known::new(alloc);
+        let mut walk = Walk::after(alloc, &none);
+        let view = RequestView::Read(&request);
+        let step = begin(&mut walk, &mut (), &NoSource, alloc, &view, &caps, words)?;
+        let targets = walk.targets;
+        Selection::at_step(
+            alloc,
+            request,
+            caps,
+            words,
+            targets,
+            Known::new(alloc),
+            step,
+        )
     }
 
     /// The choice of a request that came to a step.

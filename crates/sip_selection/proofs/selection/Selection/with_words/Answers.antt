@@ -7,15 +7,15 @@ use Rattle.sip_selection.proofs.selection.Selection.with_words.Goals as goal
 
 pub at_step-requires-clause-stands : goal.at_step-requires-clause-stands
 at_step-requires-clause-stands c =
-    let begun = c.in_ok-step.ensures.begun in
-    rw c.new-none.ensures (rw (nobody-says begun.1) at begun.2.0)
+    let consulted = rw (c.after-walk.ensures.known, c.new-none.ensures) at c.begin.ensures.consulted in
+    rw c.new.ensures (rw (nobody-says consulted) at c.in_ok-step.ensures.comes)
 
 pub at_step-requires-clause-asked : goal.at_step-requires-clause-asked
-at_step-requires-clause-asked c = rw c.new-none.ensures (nothing-asked c.args.request c.args.caps (words_of c.args.words.now))
+at_step-requires-clause-asked c = rw c.new.ensures (nothing-asked c.args.request c.args.caps (words_of c.args.words.now))
 
 pub returns-clause-memory : goal.returns-clause-memory
 returns-clause-memory c =
     let a = c.args in
-    let begun = c.in_ok-step.ensures.begun in
+    let consulted = rw (c.after-walk.ensures.known, c.new-none.ensures) at c.begin.ensures.consulted in
     err-each (λ asking. not-refused a.request a.caps (words_of a.words.now) [] _ c.in_ok-step.step asking
-    (rw (nobody-says begun.1) at begun.2.0)) c.at_step.result c.at_step.ensures.memory
+    (rw (nobody-says consulted) at c.in_ok-step.ensures.comes)) c.at_step.result c.at_step.ensures.memory
