@@ -1,6 +1,7 @@
 pub mod Cancelling
 pub mod Choosing
 pub mod Crossing
+pub mod Inside
 pub mod Receiving
 pub mod Renewing
 pub mod Resting

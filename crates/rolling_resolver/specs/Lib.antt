@@ -1,3 +1,4 @@
+pub mod Inside
 pub mod Instants
 pub mod Rests
 pub mod Rolling

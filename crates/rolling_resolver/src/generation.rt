@@ -1,5 +1,5 @@
 //! A resolver core over a book of its own.
-ghost use Rattle.std.specs.Prelude.{◌≡◌, [], ◌↔◌, ◌≤◌, ◌%◌, ⊤, IfErr, IfNone, IfOk, IfSome, IsTrue, OnErr, OnOk, length, take};
+ghost use Rattle.std.specs.Prelude.{◌≡◌, [], ℕ, ◌+◌, ◌↔◌, ◌≤◌, ◌%◌, ⊤, IfErr, IfNone, IfOk, IfSome, IsTrue, OnErr, OnOk, length, take};
 ghost use Rattle.std.specs.Bool.{OnFalse};
 ghost use Rattle.std.specs.List.{Contains};
 ghost use Rattle.answer_cache.specs.Lists.{IsListSeat};
@@ -7,9 +7,11 @@ ghost use Rattle.sip_resolver.specs.Cancels.{requests_without};
 ghost use Rattle.sip_resolver.specs.Expiries.{timeouts_of};
 ghost use Rattle.sip_resolver.specs.Idle.{IsOut};
 ghost use Rattle.sip_resolver.specs.Questions.{IsLeast, count_out};
-ghost use Rattle.sip_resolver.specs.Requests.{Stand, count_of, numbers_of};
+ghost use Rattle.sip_resolver.specs.Outcomes.{Sought};
+ghost use Rattle.sip_resolver.specs.Requests.{AreSame, Stand, count_of, numbers_of};
 ghost use Rattle.sip_resolver.specs.Resolvers.{RefusesSubmit, with_request};
 ghost use Rattle.srv_choice.specs.Draws.{words_of};
+ghost use Rattle.rolling_resolver.specs.Inside.{weight_of, weight_with};
 ghost use Rattle.rolling_resolver.specs.Rolling.{CarriesOn, IsWritten, Learns, TakesOut, begun_generation};
 
 use crate::instant::Instant;
@@ -220,6 +222,8 @@ impl Generation {
         ensures requests { self.new.core.requests
             ≡ requests_without number self.old.core.requests }
         ensures gone { Contains (numbers_of self.new.core.requests) number → ⊥ }
+        ensures kept { (h : Sought → ℕ) → weight_of h self.old
+            ≡ weight_of h self.new + weight_with h number self.old }
         ensures seat { self.new.seat ≡ self.old.seat }
         ensures unchanged { OnFalse result (self.new ≡ self.old) }
     {
@@ -230,6 +234,7 @@ impl Generation {
     pub(crate) fn transmit(&mut self, at: &Instant, octets: &mut [u8]) -> Option<Sent>
         ensures written { IfSome result
             (λ sent. IsWritten sent octets.new self.new.core.questions) }
+        ensures same { AreSame self.old.core.requests self.new.core.requests }
         ensures seat { self.new.seat ≡ self.old.seat }
     {
         let mark = self.mark;
@@ -245,6 +250,7 @@ impl Generation {
     ) -> Result<ReplyOutcome, AllocError>
         ensures learns { IfOk result
             (λ heard. Learns over octets.now at.now.second heard self.old self.new) }
+        ensures same { AreSame self.old.core.requests self.new.core.requests }
         ensures unchanged { OnErr result (self.new ≡ self.old) }
     {
         let heard = self
@@ -261,6 +267,7 @@ impl Generation {
     /// whether one was out.
     pub(crate) fn give_up(&mut self, query: u32) -> bool
         ensures found { IsTrue result → IsOut (query % 65536) self.old.core.questions }
+        ensures same { AreSame self.old.core.requests self.new.core.requests }
         ensures seat { self.new.seat ≡ self.old.seat }
         ensures unchanged { OnFalse result (self.new ≡ self.old) }
     {
@@ -301,6 +308,7 @@ fn transmit(
     ensures stays { IsListSeat seat.new }
     ensures stand { Stand (λ _. ⊤) (λ _. ⊤) seat.new core.new.requests }
     ensures written { IfSome result (λ sent. IsWritten sent octets.new core.new.questions) }
+    ensures same { AreSame core.old.requests core.new.requests }
     ensures unchanged { seat.new ≡ seat.old }
 {
     let message = core.poll_transmit(book, seat, at.second, at.asked)?;

@@ -1,6 +1,6 @@
 //! A clock that counts milliseconds, read for a resolver that counts seconds.
-ghost use Rattle.std.specs.Prelude.{◌≡◌, ◌/◌, IfSome};
-ghost use Rattle.rolling_resolver.specs.Instants.{left_until};
+ghost use Rattle.std.specs.Prelude.{◌≡◌, ◌↔◌, ◌/◌, ◌≤◌, ◌^◌, IfSome, None};
+ghost use Rattle.rolling_resolver.specs.Instants.{IsRoundedUp, left_until};
 
 use dns_answers::Moment;
 use sip_resolver::rounded_up;
@@ -19,7 +19,9 @@ pub struct Instant {
 
 /// The time at this number of milliseconds, unless that is 2^48 seconds or more.
 pub fn instant_of(milliseconds: u64) -> Option<Instant>
-    ensures { IfSome result (λ it. it.second ≡ milliseconds / 1000) }
+    ensures second { IfSome result (λ it. it.second ≡ milliseconds / 1000) }
+    ensures asked { IfSome result (λ it. IsRoundedUp milliseconds it.asked) }
+    ensures none { (result ≡ None) ↔ (2 ^ 48 ≤ milliseconds / 1000) }
 {
     let second = Moment::new(milliseconds / SECOND)?;
     let asked = if milliseconds % SECOND == 0 {

@@ -1,11 +1,13 @@
 //! A resolver whose book begins anew before it is full.
-ghost use Rattle.std.specs.Prelude.{◌≡◌, ◌↔◌, ◌≤◌, ◌⊎◌, [], None, false, IsSomeAnd, IsTrue, MatchOption, Some, IfErr, IfNone, IfOk, IfSome, OnErr, OnOk, length, take};
+ghost use Rattle.std.specs.Prelude.{◌≡◌, ◌↔◌, ◌≤◌, ◌+◌, ◌⊎◌, ℕ, [], None, false, IsSomeAnd, IsTrue, MatchOption, Some, IfErr, IfNone, IfOk, IfSome, OnErr, OnOk, length, take};
 ghost use Rattle.std.specs.Bool.{OnFalse};
 ghost use Rattle.std.specs.List.{Contains};
 ghost use Rattle.dns_queries.specs.declared.incoming.Why.{Why};
+ghost use Rattle.sip_resolver.specs.Outcomes.{Sought};
 ghost use Rattle.sip_resolver.specs.Questions.{IsLeast, count_out};
 ghost use Rattle.sip_resolver.specs.Requests.{count_of, numbers_of};
 ghost use Rattle.sip_resolver.specs.declared.resolver.ReplyOutcome.TheVariants.{Ignored};
+ghost use Rattle.rolling_resolver.specs.Inside.{GainsOne, LosesNumber, SameInside, weight_of, weight_with};
 ghost use Rattle.rolling_resolver.specs.Rests.{AllRestOn, GainsFrom, KeepsAnswers, TellsOf};
 ghost use Rattle.rolling_resolver.specs.Rolling.{Begins, HasNone, HasNoneOlder, HasRequest, IsQueryOf, Receives, ReceivesOlder, Renews, SameSeats, Takes, TakesIn, TakesOlder, Tells, begun_rolling, dues_in, older_dues, older_seat};
 ghost use Rattle.rolling_resolver.specs.Stats.{AreCounted, of_older};
@@ -105,7 +107,10 @@ impl RollingResolver {
     }
 
     /// Whether an older generation is there, and no request is inside it.
-    fn is_drained(&self) -> bool {
+    fn is_drained(&self) -> bool
+        ensures { IsTrue result
+            ↔ IsSomeAnd self.now.draining (λ older. count_of older.core.requests ≡ 0) }
+    {
         match &self.draining {
             Some(draining) => draining.is_empty(),
             None => false,
@@ -117,6 +122,7 @@ impl RollingResolver {
         ensures told { self.new.told ≡ self.old.told }
         ensures current { self.new.current ≡ self.old.current }
         ensures older { (self.new.draining ≡ self.old.draining) ⊎ (self.new.draining ≡ None) }
+        ensures inside { SameInside self.old self.new }
         ensures answers { KeepsAnswers self.old self.new }
     {
         if !self.is_drained() {
@@ -132,6 +138,7 @@ impl RollingResolver {
     fn begin_next(&mut self, alloc: Global)
         ensures told { self.new.told ≡ self.old.told }
         ensures begins { (self.new ≡ self.old) ⊎ Begins self.old self.new }
+        ensures inside { self.old.draining ≡ None → SameInside self.old self.new }
     {
         let next = self
             .current
@@ -148,6 +155,7 @@ impl RollingResolver {
     fn renew(&mut self, alloc: Global)
         ensures told { self.new.told ≡ self.old.told }
         ensures renews { Renews self.old self.new }
+        ensures inside { SameInside self.old self.new }
         ensures answers { KeepsAnswers self.old self.new }
     {
         self.let_go();
@@ -178,6 +186,8 @@ impl RollingResolver {
     ) -> Result<(), SubmitRefusal>
         ensures told { self.new.told ≡ self.old.told }
         ensures taken_in { OnOk result (TakesIn number request caps until self.new) }
+        ensures gains { OnOk result (GainsOne number request caps until self.old self.new) }
+        ensures inside { OnErr result (SameInside self.old self.new) }
         ensures renews { Renews self.old self.new }
         ensures answers { KeepsAnswers self.old self.new }
     {
@@ -207,6 +217,9 @@ impl RollingResolver {
         ensures gone { IfSome self.new.draining
             (λ older. Contains (numbers_of older.core.requests) number → ⊥) }
         ensures seat { older_seat self.new ≡ older_seat self.old }
+        ensures kept { (h : Sought → ℕ) → of_older (weight_of h) self.old.draining
+            ≡ of_older (weight_of h) self.new.draining
+            + of_older (weight_with h number) self.old.draining }
         ensures unchanged { OnFalse result (self.new ≡ self.old) }
     {
         match &mut self.draining {
@@ -220,6 +233,7 @@ impl RollingResolver {
         ensures told { self.new.told ≡ self.old.told }
         ensures found { IsTrue result ↔ HasRequest number self.old }
         ensures gone { HasRequest number self.new → ⊥ }
+        ensures kept { LosesNumber number self.old self.new }
         ensures seats { SameSeats self.old self.new }
         ensures unchanged { OnFalse result (self.new ≡ self.old) }
     {
@@ -235,6 +249,7 @@ impl RollingResolver {
         ensures told { self.new.told ≡ self.old.told }
         ensures found { IsTrue result ↔ HasRequest number self.old }
         ensures gone { HasRequest number self.new → ⊥ }
+        ensures kept { LosesNumber number self.old self.new }
         ensures seats { SameSeats self.old self.new }
         ensures unchanged { OnFalse result (self.new ≡ self.old) }
         ensures answers { KeepsAnswers self.old self.new }
@@ -252,6 +267,7 @@ impl RollingResolver {
         ensures query { IfSome result (λ sent.
             IsQueryOf sent.over sent.send (take sent.length octets.new) self.new) }
         ensures seats { SameSeats self.old self.new }
+        ensures inside { SameInside self.old self.new }
     {
         let Some(draining) = &mut self.draining else {
             return None;
@@ -265,6 +281,7 @@ impl RollingResolver {
         ensures query { IfSome result (λ sent.
             IsQueryOf sent.over sent.send (take sent.length octets.new) self.new) }
         ensures seats { SameSeats self.old self.new }
+        ensures inside { SameInside self.old self.new }
     {
         if let Some(sent) = self.transmit_older(at, octets) {
             return Some(sent);
@@ -278,6 +295,7 @@ impl RollingResolver {
         ensures query { IfSome result (λ sent.
             IsQueryOf sent.over sent.send (take sent.length octets.new) self.new) }
         ensures seats { SameSeats self.old self.new }
+        ensures inside { SameInside self.old self.new }
         ensures answers { KeepsAnswers self.old self.new }
     {
         let Some(sent) = self.transmit_both(at, octets) else {
@@ -345,6 +363,7 @@ impl RollingResolver {
         ensures receives { IfOk result
             (λ heard. ReceivesOlder over octets.now at.now.second why heard self.old self.new) }
         ensures unchanged { OnErr result (self.new ≡ self.old) }
+        ensures inside { SameInside self.old self.new }
     {
         let Some(draining) = &mut self.draining else {
             return Ok(ReplyOutcome::Ignored(why));
@@ -362,6 +381,7 @@ impl RollingResolver {
         ensures receives { IfOk result
             (λ heard. Receives over octets.now at.now.second heard self.old self.new) }
         ensures unchanged { OnErr result (self.new ≡ self.old) }
+        ensures inside { SameInside self.old self.new }
     {
         match self.current.receive(at, over, octets)? {
             ReplyOutcome::Ignored(why) => self.receive_older(at, over, octets, why),
@@ -379,6 +399,7 @@ impl RollingResolver {
         ensures receives { IfOk result
             (λ heard. Receives over octets.now at.now.second heard self.old self.new) }
         ensures unchanged { OnErr result (self.new ≡ self.old) }
+        ensures inside { SameInside self.old self.new }
         ensures ignored { IfOk result (λ heard. (why : Why) → heard ≡ Ignored why
             → self.new ≡ self.old) }
         ensures answers { OnOk result (GainsFrom octets.now self.old self.new) }
@@ -393,6 +414,7 @@ impl RollingResolver {
     fn give_up_older(&mut self, query: u32) -> bool
         ensures told { self.new.told ≡ self.old.told }
         ensures seats { SameSeats self.old self.new }
+        ensures inside { SameInside self.old self.new }
         ensures unchanged { OnFalse result (self.new ≡ self.old) }
     {
         match &mut self.draining {
@@ -406,6 +428,7 @@ impl RollingResolver {
     pub fn give_up(&mut self, query: u32) -> bool
         ensures told { self.new.told ≡ self.old.told }
         ensures seats { SameSeats self.old self.new }
+        ensures inside { SameInside self.old self.new }
         ensures unchanged { OnFalse result (self.new ≡ self.old) }
         ensures answers { KeepsAnswers self.old self.new }
     {

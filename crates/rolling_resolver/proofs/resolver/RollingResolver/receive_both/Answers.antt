@@ -1,3 +1,4 @@
+use Rattle.rolling_resolver.proofs.Inside.{younger-same}
 use Rattle.rolling_resolver.proofs.Receiving.{ignored-by-younger, older-takes, younger-takes}
 use Rattle.rolling_resolver.proofs.resolver.RollingResolver.receive_both.Goals as goal
 
@@ -21,4 +22,10 @@ returns-in_default c = record {
       (younger-takes c.args.over c.args.octets.now c.args.at.now.second _ c.in_ok-heard.heard c.receive.new.self
       c.in_ok-heard.ensures.learns);
   unchanged = tt;
+  inside = rw (← c.self.view_is)
+      (younger-same (record {
+        told = c.self.inside.told;
+        current = c.self.inside.current;
+        draining = c.self.inside.draining;
+      }) c.receive.new.self c.receive.ensures.same);
 }

@@ -1,5 +1,6 @@
 use Rattle.std.proofs.Common.{ap, refl}
 use Rattle.rolling_resolver.specs.Rolling.{GenerationView}
+use Rattle.rolling_resolver.proofs.Inside.{gains-by}
 use Rattle.rolling_resolver.proofs.Renewing.{renews-still}
 use Rattle.rolling_resolver.proofs.Resting.{current-keeps}
 use Rattle.rolling_resolver.proofs.resolver.RollingResolver.submit.Goals as goal
@@ -25,3 +26,8 @@ pub returns-clause-renews : goal.returns-clause-renews
 returns-clause-renews c =
     let renewed = rw (← c.self.view_is) at c.renew.ensures.renews in
     renews-still _ _ _ renewed (ap (λ (g : GenerationView). g.seat) c.in_ok-submit.ensures.submitted) refl
+
+pub returns-clause-gains : goal.returns-clause-gains
+returns-clause-gains c =
+    gains-by c.args.number c.args.request c.args.caps _ c.args.until _ _ c.submit.new.self c.in_ok-submit.ensures.submitted
+    (rw (← c.self.view_is) at c.renew.ensures.inside)
