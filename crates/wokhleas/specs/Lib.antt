@@ -1,6 +1,7 @@
 pub mod Handles
 pub mod Numbers
 pub mod Requests
+pub mod Statuses
 pub mod Told
 pub mod Tries
 pub mod Wires

@@ -1,5 +1,5 @@
 -- Requests that C hands in.
-use Rattle.std.specs.Prelude.{ℕ, List, Option}
+use Rattle.std.specs.Prelude.{◌≡◌, ◌≢◌, ℕ, ◌-◌, ◌^◌, List, Option, Some, None}
 use Rattle.sip_resolver.specs.declared.refusal.SubmitRefusal.{SubmitRefusal}
 use Rattle.sip_resolver.specs.declared.refusal.SubmitRefusal.TheVariants as refusals
 use Rattle.sip_selection.specs.declared.caps.Caps.{Caps}
@@ -7,7 +7,10 @@ use Rattle.sip_selection.specs.declared.request.Request.{Request}
 use Rattle.sip_selection.specs.declared.request.Request.TheVariants.{Uri, Via}
 use Rattle.sip_uri.specs.Uris.{UriText}
 use Rattle.sip_uri.specs.Vias.{ViaText}
+use Rattle.rolling_resolver.specs.Inside.{GainsOne, LosesNumber}
+use Rattle.rolling_resolver.specs.Instants.{IsRoundedUp}
 use Rattle.rolling_resolver.specs.Rolling.{HasRequest, RollingView, SameSeats, TakesIn}
+use Rattle.wokhleas.specs.Numbers.{AreCapsOf}
 use Rattle.wokhleas.specs.declared.status.Status.{Status}
 use Rattle.wokhleas.specs.declared.status.Status.TheVariants.{Full, Memory, Taken}
 
@@ -16,13 +19,30 @@ abbrev pub IsRequest : List ℕ → Request → Type 0
 IsRequest octets (Uri uri) = UriText octets uri
 IsRequest octets (Via via) = ViaText octets via
 
--- a request that octets spell is taken in under a number
-pub record IsSubmitted (number : ℕ) (octets : List ℕ) (new : RollingView) : Type 0 where
+-- the moment by which a request ends, in seconds, that this millisecond stands for: none for the
+-- greatest number of 64 bits
+abbrev pub IsUntil : ℕ → Option ℕ → Type 0
+IsUntil milliseconds None = milliseconds ≡ 2 ^ 64 - 1
+IsUntil milliseconds (Some second) =
+    (milliseconds ≢ 2 ^ 64 - 1) × IsRoundedUp milliseconds second
+
+-- a request that octets spell is taken in under a number, with what its caller can do, and the
+-- moment by which it ends; all others stay inside
+pub record IsTakenIn (number : ℕ) (octets : List ℕ) (caps : Caps) (until : Option ℕ)
+    (old new : RollingView) : Type 0 where
   pub request : Request
-  pub caps : Caps
-  pub until : Option ℕ
   pub spelled : IsRequest octets request
   pub taken_in : TakesIn number request caps until new
+  pub gains : GainsOne number request caps until old new
+
+-- the same, by the numbers of its caller's transports and families, and a millisecond
+pub record IsSubmitted (number : ℕ) (octets transports : List ℕ) (families milliseconds : ℕ)
+    (old new : RollingView) : Type 0 where
+  pub caps : Caps
+  pub until : Option ℕ
+  pub can : AreCapsOf transports families caps
+  pub ends : IsUntil milliseconds until
+  pub taken_in : IsTakenIn number octets caps until old new
 
 -- what C is told of a request that is not taken in
 abbrev pub status_of : SubmitRefusal → Status
@@ -31,8 +51,9 @@ status_of refusals.NumberTaken = Taken
 status_of refusals.Memory = Memory
 
 -- the request of this number, which was inside, is cancelled: none of the number is inside any
--- more, and the seats are as they were
+-- more, all others are, and the seats are as they were
 pub record Cancels (number : ℕ) (old new : RollingView) : Type 0 where
   pub was : HasRequest number old
   pub gone : HasRequest number new → ⊥
+  pub kept : LosesNumber number old new
   pub seats : SameSeats old new

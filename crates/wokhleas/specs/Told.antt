@@ -1,10 +1,12 @@
 -- What C is told of a request that ended, in the numbers of its header.
-use Rattle.std.specs.Prelude.{◌≡◌, ℕ, List, [], ◌∷◌, ◌++◌, length, Option, Some, None, option_and_then, slice_get}
+use Rattle.std.specs.Prelude.{◌≡◌, ℕ, List, [], ◌∷◌, ◌++◌, drop, length, Option, Some, None, option_and_then, slice_get}
 use Rattle.std.specs.Option.{option_map}
 use Rattle.dns_answers.specs.declared.refusal.ReplyRefusal.{ReplyRefusal}
 use Rattle.dns_answers.specs.declared.refusal.ReplyRefusal.TheVariants.{NotReply, OtherQuestion, Truncated, ServerFault}
 use Rattle.dns_answers.specs.declared.refusal.ReplyRefusal.TheVariants as refusals
+use Rattle.dns_message.specs.Kinds.{type_of_kind}
 use Rattle.dns_message.specs.declared.question.Question.{Question}
+use Rattle.dns_name.specs.Texts.{text_of}
 use Rattle.ip_text.specs.declared.address.Address.{Address}
 use Rattle.ip_text.specs.declared.address.Address.TheVariants.{V4, V6}
 use Rattle.sip_resolver.specs.Outcomes.{Ended}
@@ -15,6 +17,7 @@ use Rattle.sip_selection.specs.declared.reason.Reason.{Reason}
 use Rattle.sip_selection.specs.declared.reason.Reason.TheVariants.{TransportUnsupported, TransportNotSecure, NotOffered, NoAddress}
 use Rattle.sip_selection.specs.declared.target.Target.{Target}
 use Rattle.wokhleas.specs.Numbers.{number_of}
+use Rattle.wokhleas.specs.declared.outcomes.ToldQuestion.{ToldQuestion}
 use Rattle.wokhleas.specs.declared.told.ToldOutcome.{ToldOutcome}
 use Rattle.wokhleas.specs.declared.told.ToldTarget.{ToldTarget}
 
@@ -111,3 +114,16 @@ pub record IsTold (outcome : ToldOutcome) (old new : RollingView) : Type 0 where
 abbrev pub target_told_at : ℕ → Option RollingView → Option ToldTarget
 target_told_at index state =
     option_and_then (λ it. option_and_then (λ ended. target_at ended index) it.told) state
+
+-- the question whose answer the outcome that was told last lacks
+abbrev pub question_lacked : Option RollingView → Option Question
+question_lacked state =
+    option_and_then (λ it. option_and_then (λ ended. question_of ended.outcome) it.told) state
+
+-- A question is told: the text of its name is in front of the buffer, whose other octets stay; its
+-- length and the number of its type are these.
+pub record IsQuestionTold (told : ToldQuestion) (before after : List ℕ) (question : Question) : Type 0
+  where
+    pub text : after ≡ text_of question.name ++ drop told.length before
+    pub long : told.length ≡ length (text_of question.name)
+    pub type : told.type_number ≡ type_of_kind question.kind

@@ -1,5 +1,5 @@
 //! What C has of a resolver.
-ghost use Rattle.std.specs.Prelude.{◌≡◌, Some, None, IfOk, OnErr, is_some};
+ghost use Rattle.std.specs.Prelude.{◌≡◌, Some, None, IfErr, IfOk, OnErr, is_some};
 
 use crate::held::Held;
 use crate::loose::Loose;
@@ -29,6 +29,7 @@ impl Handle {
         ensures closed { self.new.held.state ≡ None }
         ensures taken { IfOk result (λ resolver. self.old.held.state ≡ Some resolver.value) }
         ensures none { OnErr result (self.old.held.state ≡ None) }
+        ensures told { IfErr result (λ status. status ≡ Status.Closed) }
     {
         if !self.is_open {
             return Err(Status::Closed);

@@ -33,7 +33,9 @@ fn transport_of(number: u8) -> Option<Transport>
 }
 
 /// The families of a number.
-fn families_of(number: u8) -> Option<Families> {
+fn families_of(number: u8) -> Option<Families>
+    ensures { IfSome result (λ families. spec.number_of_families families ≡ number) }
+{
     match number {
         1 => Some(Families::V4),
         2 => Some(Families::V6),
@@ -78,7 +80,9 @@ pub(crate) fn number_of_reason(reason: Reason) -> u32
 
 /// What the caller can do, by the numbers of its transports, most wanted first, and of its
 /// families.
-pub(crate) fn caps_of(transports: &[u8], families: u8) -> Option<Caps> {
+pub(crate) fn caps_of(transports: &[u8], families: u8) -> Option<Caps>
+    ensures { IfSome result (spec.AreCapsOf transports.now families) }
+{
     let families = families_of(families)?;
     match transports {
         [a] => Caps::new(&[transport_of(*a)?], families),

@@ -1,10 +1,13 @@
 //! What became of requests.
-ghost use Rattle.std.specs.Prelude.{◌≡◌, ◌≢◌, None, Some, IfNone, IfOk, IfSome, IsSome, OnErr, OnOk, pos, option_and_then};
+ghost use Rattle.std.specs.Prelude.{◌≡◌, ◌≢◌, ◌↔◌, ◌<◌, None, Some, Err, IfNone, IfOk, IfSome, IsSome, MatchOption, OnErr, OnOk, length, pos};
+ghost use Rattle.dns_message.specs.declared.question.Question.{Question};
+ghost use Rattle.dns_name.specs.Texts.{text_of};
 ghost use Rattle.rolling_resolver.specs.Rests.{KeepsAnswers, TellsOf};
 ghost use Rattle.rolling_resolver.specs.Rolling.{HasNone};
 ghost use Rattle.wokhleas.specs.Handles.{GoesBy, StaysBy};
 ghost use Rattle.wokhleas.specs.Told.{IsTold, target_told_at};
 ghost use Rattle.wokhleas.specs.Told as spec;
+ghost use Rattle.wokhleas.specs.Statuses.{closed};
 
 use crate::handle::Handle;
 use crate::status::{DONE, Status};
@@ -45,6 +48,7 @@ fn next(alloc: Global, handle: &mut Handle) -> Result<ToldOutcome, Status>
     ensures answers { StaysBy KeepsAnswers handle.old.held.state handle.new.held.state }
     ensures unchanged { OnErr result (handle.new.held.state ≡ handle.old.held.state) }
     ensures none { OnErr result (IfSome handle.old.held.state (λ state. HasNone state)) }
+    ensures is_closed { handle.old.held.state ≡ None → result ≡ Err Status.Closed }
 {
     let mut resolver = handle.take(alloc)?;
     let told = tell_next(&mut resolver);
@@ -67,6 +71,7 @@ fn target(alloc: Global, handle: &mut Handle, index: usize) -> Result<ToldTarget
     ensures told { IfOk result (λ told. target_told_at index handle.old.held.state ≡ Some told) }
     ensures none { OnErr result (target_told_at index handle.old.held.state ≡ None) }
     ensures same { handle.new.held.state ≡ handle.old.held.state }
+    ensures is_closed { handle.old.held.state ≡ None → result ≡ Err Status.Closed }
 {
     let resolver = handle.take(alloc)?;
     let told = told_target(&resolver, index);
@@ -79,15 +84,24 @@ fn target(alloc: Global, handle: &mut Handle, index: usize) -> Result<ToldTarget
 
 /// The question whose answer the outcome that was told last lacks.
 fn told_question(resolver: &RollingResolver) -> Option<&Question>
-    ensures { IfSome result
-        (λ question. IfSome resolver.now.told
-        (λ ended. Some question.now ≡ spec.question_of ended.outcome)) }
+    ensures { MatchOption result (spec.question_lacked (Some resolver.now) ≡ None)
+        (λ question. spec.question_lacked (Some resolver.now) ≡ Some question.now) }
 {
     question_of(resolver.told()?)
 }
 
 /// Writes the name that a question asks about into a buffer.
-fn write_question(resolver: &RollingResolver, name: &mut [u8]) -> Result<ToldQuestion, Status> {
+fn write_question(resolver: &RollingResolver, name: &mut [u8]) -> Result<ToldQuestion, Status>
+    ensures told { IfOk result (λ told. (question : Question)
+        × (spec.question_lacked (Some resolver.now) ≡ Some question)
+        × spec.IsQuestionTold told name.old name.new question) }
+    ensures unchanged { OnErr result (name.new ≡ name.old) }
+    ensures nothing { (result ≡ Err Status.Nothing)
+        ↔ (spec.question_lacked (Some resolver.now) ≡ None) }
+    ensures room { result ≡ Err Status.Room → (question : Question)
+        × (spec.question_lacked (Some resolver.now) ≡ Some question)
+        × (length name.old < length (text_of question.name)) }
+{
     let Some(question) = told_question(resolver) else {
         return Err(Status::Nothing);
     };
@@ -107,7 +121,12 @@ fn write_question(resolver: &RollingResolver, name: &mut [u8]) -> Result<ToldQue
 
 /// Writes the name that the question of the outcome that was told last asks about.
 fn question(alloc: Global, handle: &mut Handle, name: &mut [u8]) -> Result<ToldQuestion, Status>
+    ensures told { IfOk result (λ told. (question : Question)
+        × (spec.question_lacked handle.old.held.state ≡ Some question)
+        × spec.IsQuestionTold told name.old name.new question) }
+    ensures unchanged { OnErr result (name.new ≡ name.old) }
     ensures same { handle.new.held.state ≡ handle.old.held.state }
+    ensures is_closed { handle.old.held.state ≡ None → result ≡ Err Status.Closed }
 {
     let resolver = handle.take(alloc)?;
     let told = write_question(&resolver, name);
@@ -130,6 +149,7 @@ pub extern "C" fn wokhleas_raw_next(
         × (outcome.new ≡ outcome.old) }
     ensures none { result ≢ pos 0 → IfSome handle.old.held.state (λ state. HasNone state) }
     ensures answers { StaysBy KeepsAnswers handle.old.held.state handle.new.held.state }
+    ensures is_closed { handle.old.held.state ≡ None → result ≡ pos closed }
 {
     match next(alloc, handle) {
         Ok(told) => {
@@ -153,6 +173,7 @@ pub extern "C" fn wokhleas_raw_get_target(
     ensures none { result ≢ pos 0 → (target_told_at index handle.old.held.state ≡ None)
         × (target_told.new ≡ target_told.old) }
     ensures same { handle.new.held.state ≡ handle.old.held.state }
+    ensures is_closed { handle.old.held.state ≡ None → result ≡ pos closed }
 {
     match target(alloc, handle, index) {
         Ok(told) => {
@@ -171,7 +192,13 @@ pub extern "C" fn wokhleas_raw_get_question(
     name: &mut [u8],
     question_told: &mut ToldQuestion,
 ) -> i32
+    ensures told { result ≡ pos 0 → (question : Question)
+        × (spec.question_lacked handle.old.held.state ≡ Some question)
+        × spec.IsQuestionTold question_told.new name.old name.new question }
+    ensures unchanged { result ≢ pos 0 → (name.new ≡ name.old)
+        × (question_told.new ≡ question_told.old) }
     ensures same { handle.new.held.state ≡ handle.old.held.state }
+    ensures is_closed { handle.old.held.state ≡ None → result ≡ pos closed }
 {
     match question(alloc, handle, name) {
         Ok(told) => {

@@ -1,11 +1,13 @@
 //! Requests come in.
-ghost use Rattle.std.specs.Prelude.{◌≡◌, ◌≢◌, IfSome, OnErr, OnOk, pos};
+ghost use Rattle.std.specs.Prelude.{◌≡◌, ◌≢◌, IfOk, IfSome, OnErr, OnOk, pos, None, Err};
 ghost use Rattle.sip_selection.specs.declared.request.Request.TheVariants.{Uri};
 ghost use Rattle.sip_uri.specs.Views.{IsUriView, uri_of};
+ghost use Rattle.rolling_resolver.specs.Inside.{GainsOne, SameInside};
 ghost use Rattle.rolling_resolver.specs.Rests.{KeepsAnswers};
 ghost use Rattle.rolling_resolver.specs.Rolling.{HasRequest, Renews, TakesIn};
 ghost use Rattle.wokhleas.specs.Handles.{GoesBy, StaysBy};
-ghost use Rattle.wokhleas.specs.Requests.{Cancels, IsSubmitted};
+ghost use Rattle.wokhleas.specs.Requests.{Cancels, IsSubmitted, IsTakenIn, IsUntil};
+ghost use Rattle.wokhleas.specs.Statuses.{closed};
 
 use crate::handle::Handle;
 use crate::numbers::caps_of;
@@ -20,7 +22,9 @@ use std::alloc::Global;
 const NEVER: u64 = u64::MAX;
 
 /// The moment by which a request ends, which C has in milliseconds; none where it says never.
-fn until_of(milliseconds: u64) -> Result<Option<Moment>, Status> {
+fn until_of(milliseconds: u64) -> Result<Option<Moment>, Status>
+    ensures { IfOk result (IsUntil milliseconds) }
+{
     if milliseconds == NEVER {
         return Ok(None);
     }
@@ -41,6 +45,10 @@ fn submit(
 ) -> Result<(), Status>
     ensures taken_in { OnOk result (GoesBy (λ old new. TakesIn number request caps until new)
         handle.old.held.state handle.new.held.state) }
+    ensures gains { OnOk result (GoesBy (GainsOne number request caps until)
+        handle.old.held.state handle.new.held.state) }
+    ensures inside { OnErr result
+        (StaysBy SameInside handle.old.held.state handle.new.held.state) }
     ensures renews { StaysBy Renews handle.old.held.state handle.new.held.state }
     ensures answers { StaysBy KeepsAnswers handle.old.held.state handle.new.held.state }
 {
@@ -67,6 +75,10 @@ fn submit_uri(
     ensures taken_in { OnOk result
         (GoesBy (λ old new. TakesIn number (Uri (uri_of parts.entry)) caps until new)
         handle.old.held.state handle.new.held.state) }
+    ensures gains { OnOk result (GoesBy (GainsOne number (Uri (uri_of parts.entry)) caps until)
+        handle.old.held.state handle.new.held.state) }
+    ensures inside { OnErr result
+        (StaysBy SameInside handle.old.held.state handle.new.held.state) }
     ensures renews { StaysBy Renews handle.old.held.state handle.new.held.state }
     ensures answers { StaysBy KeepsAnswers handle.old.held.state handle.new.held.state }
 {
@@ -86,8 +98,10 @@ fn submit_via(
     caps: Caps,
     until: Option<Moment>,
 ) -> Result<(), Status>
-    ensures submitted { OnOk result (GoesBy (λ old new. IsSubmitted number text.now new)
+    ensures taken_in { OnOk result (GoesBy (IsTakenIn number text.now caps until)
         handle.old.held.state handle.new.held.state) }
+    ensures inside { OnErr result
+        (StaysBy SameInside handle.old.held.state handle.new.held.state) }
     ensures renews { StaysBy Renews handle.old.held.state handle.new.held.state }
     ensures answers { StaysBy KeepsAnswers handle.old.held.state handle.new.held.state }
 {
@@ -111,8 +125,11 @@ fn submit_text(
     families: u8,
     until: u64,
 ) -> Result<(), Status>
-    ensures submitted { OnOk result (GoesBy (λ old new. IsSubmitted number text.now new)
+    ensures submitted { OnOk result
+        (GoesBy (IsSubmitted number text.now transports.now families until)
         handle.old.held.state handle.new.held.state) }
+    ensures inside { OnErr result
+        (StaysBy SameInside handle.old.held.state handle.new.held.state) }
     ensures renews { StaysBy Renews handle.old.held.state handle.new.held.state }
     ensures answers { StaysBy KeepsAnswers handle.old.held.state handle.new.held.state }
 {
@@ -134,6 +151,7 @@ fn cancel(alloc: Global, handle: &mut Handle, number: u64) -> Result<(), Status>
     ensures none { OnErr result
         (IfSome handle.old.held.state (λ state. HasRequest number state → ⊥)) }
     ensures answers { StaysBy KeepsAnswers handle.old.held.state handle.new.held.state }
+    ensures is_closed { handle.old.held.state ≡ None → result ≡ Err Status.Closed }
 {
     let mut resolver = handle.take(alloc)?;
     let found = resolver.cancel(number);
@@ -152,8 +170,11 @@ pub extern "C" fn wokhleas_raw_submit(
     families: u8,
     until: u64,
 ) -> i32
-    ensures submitted { result ≡ pos 0 → GoesBy (λ old new. IsSubmitted number text.now new)
+    ensures submitted { result ≡ pos 0
+        → GoesBy (IsSubmitted number text.now transports.now families until)
         handle.old.held.state handle.new.held.state }
+    ensures inside { result ≢ pos 0
+        → StaysBy SameInside handle.old.held.state handle.new.held.state }
     ensures renews { StaysBy Renews handle.old.held.state handle.new.held.state }
     ensures answers { StaysBy KeepsAnswers handle.old.held.state handle.new.held.state }
 {
@@ -172,6 +193,7 @@ pub extern "C" fn wokhleas_raw_cancel(alloc: Global, handle: &mut Handle, number
     ensures none { result ≢ pos 0
         → IfSome handle.old.held.state (λ state. HasRequest number state → ⊥) }
     ensures answers { StaysBy KeepsAnswers handle.old.held.state handle.new.held.state }
+    ensures is_closed { handle.old.held.state ≡ None → result ≡ pos closed }
 {
     match cancel(alloc, handle, number) {
         Ok(()) => DONE,

@@ -1,6 +1,7 @@
 //! What is counted of a resolver.
-ghost use Rattle.std.specs.Prelude.{◌≡◌, ◌≢◌, IfOk, IsSomeAnd, OnErr, None, pos};
+ghost use Rattle.std.specs.Prelude.{◌≡◌, ◌≢◌, IfOk, IsSomeAnd, OnErr, None, pos, Err};
 ghost use Rattle.rolling_resolver.specs.Stats.{AreCounted};
+ghost use Rattle.wokhleas.specs.Statuses.{closed};
 
 use crate::handle::Handle;
 use crate::status::{DONE, Status};
@@ -13,6 +14,7 @@ fn counted(alloc: Global, handle: &mut Handle) -> Result<Stats, Status>
         (λ stats. IsSomeAnd handle.old.held.state (AreCounted stats)) }
     ensures closed { OnErr result (handle.old.held.state ≡ None) }
     ensures same { handle.new.held.state ≡ handle.old.held.state }
+    ensures is_closed { handle.old.held.state ≡ None → result ≡ Err Status.Closed }
 {
     let resolver = handle.take(alloc)?;
     let stats = resolver.stats();
@@ -32,6 +34,7 @@ pub extern "C" fn wokhleas_raw_stats(
     ensures closed { result ≢ pos 0 → (handle.old.held.state ≡ None)
         × (stats_told.new ≡ stats_told.old) }
     ensures same { handle.new.held.state ≡ handle.old.held.state }
+    ensures is_closed { handle.old.held.state ≡ None → result ≡ pos closed }
 {
     match counted(alloc, handle) {
         Ok(stats) => {

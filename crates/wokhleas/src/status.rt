@@ -1,5 +1,6 @@
 //! What C is told of a call: that it is done, or why not.
-ghost use Rattle.std.specs.Prelude.{◌≢◌, pos};
+ghost use Rattle.std.specs.Prelude.{◌≡◌, ◌≢◌, pos};
+ghost use Rattle.wokhleas.specs.Statuses as spec;
 
 use sip_resolver::SubmitRefusal;
 
@@ -32,7 +33,8 @@ pub(crate) enum Status {
 impl Status {
     /// Its number in C.
     pub(crate) fn code(self) -> i32
-        ensures { result ≢ pos 0 }
+        ensures number { result ≡ pos (spec.code_of self) }
+        ensures fault { result ≢ pos 0 }
     {
         match self {
             Status::Nothing => 1,

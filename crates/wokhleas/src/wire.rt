@@ -1,13 +1,15 @@
 //! What goes out, what comes in, and when.
-ghost use Rattle.std.specs.Prelude.{◌≡◌, ◌≢◌, ◌/◌, [], IfOk, IfSome, IsSomeAnd, OnErr, OnOk, Some, pos, take};
+ghost use Rattle.std.specs.Prelude.{◌≡◌, ◌≢◌, ◌/◌, [], IfOk, IfSome, IsSomeAnd, OnErr, OnOk, Some, pos, take, None, Err};
 ghost use Rattle.dns_queries.specs.declared.incoming.Why.{Why};
 ghost use Rattle.sip_resolver.specs.Questions.{IsLeast};
 ghost use Rattle.sip_resolver.specs.declared.resolver.ReplyOutcome.TheVariants.{Ignored};
+ghost use Rattle.rolling_resolver.specs.Inside.{SameInside};
 ghost use Rattle.rolling_resolver.specs.Rests.{GainsFrom, KeepsAnswers};
 ghost use Rattle.rolling_resolver.specs.Rolling.{IsQueryOf, SameSeats, dues_in};
 ghost use Rattle.wokhleas.specs.Handles.{GoesBy, StaysBy};
 ghost use Rattle.wokhleas.specs.Numbers.{number_of_over};
 ghost use Rattle.wokhleas.specs.Wires.{IsLeft, IsReceived, IsTransmitted};
+ghost use Rattle.wokhleas.specs.Statuses.{closed};
 
 use crate::handle::Handle;
 use crate::numbers::{number_of_over, over_of};
@@ -44,6 +46,7 @@ fn transmit(
         (λ old new. IsQueryOf sent.over sent.send (take sent.length octets.new) new)
         handle.old.held.state handle.new.held.state) }
     ensures seats { StaysBy SameSeats handle.old.held.state handle.new.held.state }
+    ensures inside { StaysBy SameInside handle.old.held.state handle.new.held.state }
     ensures answers { StaysBy KeepsAnswers handle.old.held.state handle.new.held.state }
 {
     let mut resolver = handle.take(alloc)?;
@@ -66,6 +69,7 @@ fn receive(
     ensures received { OnOk result (GoesBy (IsReceived (number_of_over over) octets.now at.second)
         handle.old.held.state handle.new.held.state) }
     ensures unchanged { OnErr result (handle.new.held.state ≡ handle.old.held.state) }
+    ensures inside { StaysBy SameInside handle.old.held.state handle.new.held.state }
     ensures answers { StaysBy (GainsFrom octets.now)
         handle.old.held.state handle.new.held.state }
 {
@@ -92,8 +96,10 @@ fn is_reply(heard: ReplyOutcome) -> Result<(), Status>
 /// Says that no server takes a query.
 fn give_up(alloc: Global, handle: &mut Handle, query: u32) -> Result<(), Status>
     ensures seats { StaysBy SameSeats handle.old.held.state handle.new.held.state }
+    ensures inside { StaysBy SameInside handle.old.held.state handle.new.held.state }
     ensures answers { StaysBy KeepsAnswers handle.old.held.state handle.new.held.state }
     ensures unchanged { OnErr result (handle.new.held.state ≡ handle.old.held.state) }
+    ensures is_closed { handle.old.held.state ≡ None → result ≡ Err Status.Closed }
 {
     let mut resolver = handle.take(alloc)?;
     let found = resolver.give_up(query);
@@ -107,6 +113,7 @@ fn deadline(alloc: Global, handle: &mut Handle) -> Result<u64, Status>
         IsSomeAnd handle.old.held.state (λ state. IsLeast (dues_in state) (Some second))) }
     ensures none { OnErr result (IfSome handle.old.held.state (λ state. dues_in state ≡ [])) }
     ensures same { handle.new.held.state ≡ handle.old.held.state }
+    ensures is_closed { handle.old.held.state ≡ None → result ≡ Err Status.Closed }
 {
     let resolver = handle.take(alloc)?;
     let second = resolver.deadline();
@@ -131,6 +138,7 @@ pub extern "C" fn wokhleas_raw_transmit(
         handle.old.held.state handle.new.held.state }
     ensures unchanged { result ≢ pos 0 → message.new ≡ message.old }
     ensures seats { StaysBy SameSeats handle.old.held.state handle.new.held.state }
+    ensures inside { StaysBy SameInside handle.old.held.state handle.new.held.state }
     ensures answers { StaysBy KeepsAnswers handle.old.held.state handle.new.held.state }
 {
     let Some(at) = instant_of(milliseconds) else {
@@ -164,6 +172,7 @@ pub extern "C" fn wokhleas_raw_receive(
         → GoesBy (IsReceived over octets.now (milliseconds / 1000))
         handle.old.held.state handle.new.held.state }
     ensures unchanged { result ≢ pos 0 → handle.new.held.state ≡ handle.old.held.state }
+    ensures inside { StaysBy SameInside handle.old.held.state handle.new.held.state }
     ensures answers { StaysBy (GainsFrom octets.now)
         handle.old.held.state handle.new.held.state }
 {
@@ -181,7 +190,9 @@ pub extern "C" fn wokhleas_raw_receive(
 pub extern "C" fn wokhleas_raw_give_up(alloc: Global, handle: &mut Handle, query: u32) -> i32
     ensures seats { StaysBy SameSeats handle.old.held.state handle.new.held.state }
     ensures unchanged { result ≢ pos 0 → handle.new.held.state ≡ handle.old.held.state }
+    ensures inside { StaysBy SameInside handle.old.held.state handle.new.held.state }
     ensures answers { StaysBy KeepsAnswers handle.old.held.state handle.new.held.state }
+    ensures is_closed { handle.old.held.state ≡ None → result ≡ pos closed }
 {
     match give_up(alloc, handle, query) {
         Ok(()) => DONE,
@@ -202,6 +213,7 @@ pub extern "C" fn wokhleas_raw_timeout(
     ensures none { result ≢ pos 0 → (left.new ≡ left.old)
         × IfSome handle.old.held.state (λ state. dues_in state ≡ []) }
     ensures same { handle.new.held.state ≡ handle.old.held.state }
+    ensures is_closed { handle.old.held.state ≡ None → result ≡ pos closed }
 {
     match deadline(alloc, handle) {
         Ok(second) => {
