@@ -39,7 +39,8 @@ pub struct Message {
 /// Reads the message in front of these octets. What comes after its counted questions and records
 /// is ignored.
 ///
-/// Memory is taken as questions and records are read, and never for a count of the header.
+/// Memory is taken as questions and records are read, and never for a count of the header alone:
+/// where four of a section were read, it is taken for as many as the count says, twelve at most.
 #[inline(always)]
 pub fn read_message(alloc: Global, bytes: &[u8]) -> Result<Message, MessageRefusal>
     // What is read stands in front of the octets.

@@ -89,6 +89,7 @@ pub fn read_uri(alloc: Global, text: &str) -> Result<SipUri, UriRefusal>
     if let Some(maddr) = parts.maddr {
         return read_hosts(alloc, parts, maddr);
     }
+    // each arm returns by itself: where they join, the URI is moved once more
     match parts.host {
         HostPart::V4(address) => return Ok(parts.with_v4(address)),
         HostPart::V6(address) => return Ok(parts.with_v6(address)),
