@@ -22,8 +22,8 @@ number_of_families V6 = 2
 number_of_families V4ThenV6 = 3
 number_of_families V6ThenV4 = 4
 
--- What a caller can do that has the transports of these numbers, in their order, and the families of
--- this one: for a request of any size, and with ties by chance.
+-- What a caller can do that has the transports of these numbers, in their order, and the families
+-- of this one: for a request of any size, and with ties by chance.
 pub record AreCapsOf (transports : List ℕ) (families : ℕ) (caps : Caps) : Type 0 where
   pub transports_are : map number_of caps.transports ≡ transports
   pub families_are : number_of_families caps.families ≡ families

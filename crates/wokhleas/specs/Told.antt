@@ -122,8 +122,8 @@ question_lacked state =
 
 -- A question is told: the text of its name is in front of the buffer, whose other octets stay; its
 -- length and the number of its type are these.
-pub record IsQuestionTold (told : ToldQuestion) (before after : List ℕ) (question : Question) : Type 0
-  where
-    pub text : after ≡ text_of question.name ++ drop told.length before
-    pub long : told.length ≡ length (text_of question.name)
-    pub type : told.type_number ≡ type_of_kind question.kind
+pub record IsQuestionTold (told : ToldQuestion) (before after : List ℕ) (question : Question)
+    : Type 0 where
+  pub text : after ≡ text_of question.name ++ drop told.length before
+  pub long : told.length ≡ length (text_of question.name)
+  pub type : told.type_number ≡ type_of_kind question.kind
