@@ -1,5 +1,5 @@
 -- What a step does to the cells.
-use Rattle.std.proofs.Common.{◌≡◌, ◌≢◌, ℕ, zero, suc, ◌<◌, ◌==◌, Bool, true, false, List}
+use Rattle.std.proofs.Common.{◌≡◌, ◌≢◌, ℕ, zero, suc, ◌<◌, ◌≤◌, ◌==◌, Bool, true, false, List}
 use Rattle.std.proofs.Common.{[], ◌∷◌, ◌++◌, length, refl, ap, sym, ◌∙◌, arith, set, get_or}
 use Rattle.std.proofs.lemmas.List.{set-get_or, get_or-set_other}
 use Rattle.std.proofs.lemmas.Bool.Decides.{nat_tests}
@@ -34,18 +34,18 @@ idle n = idle-when (n == 0) n refl
 pub keep-else : (cs : List Cell) (k v l : ℕ) (c : Cell) → l ≢ k → cell cs l ≡ c → cell (set cs k (v, true)) l ≡ c
 keep-else cs k v l c ne e = get_or-set_other cs k l (v, true) (0, false) ne ∙ e
 
-pub keeps-low : (cs : List Cell) (k v : ℕ) → k < 65 → Keeps cs (set cs k (v, true))
-keeps-low cs k v low l w some e = keep-else cs k v l (w, true) (λ p. absurd (omega arith)) e
+pub keeps-low : (groups : ℕ) (cs : List Cell) (k v : ℕ) → k ≤ groups → Keeps groups cs (set cs k (v, true))
+keeps-low groups cs k v low l w some e = keep-else cs k v l (w, true) (λ p. absurd (omega arith)) e
 
 -- a cell that is out is none that is at home
 pub apart : (cs : List Cell) (k l : ℕ) → (cell cs k).1 ≡ false → (cell cs l).1 ≡ true → l ≢ k
 apart cs k l out home p = let e : (cell cs l).1 ≡ (cell cs k).1 = ap (λ j. (cell cs j).1) p in absurd (cc)
 
-pub keeps-out : (cs : List Cell) (k v : ℕ) → (cell cs k).1 ≡ false → Keeps cs (set cs k (v, true))
-keeps-out cs k v out l w some e = keep-else cs k v l (w, true) (apart cs k l out (ap (λ (c : Cell). c.1) e)) e
+pub keeps-out : (groups : ℕ) (cs : List Cell) (k v : ℕ) → (cell cs k).1 ≡ false → Keeps groups cs (set cs k (v, true))
+keeps-out groups cs k v out l w some e = keep-else cs k v l (w, true) (apart cs k l out (ap (λ (c : Cell). c.1) e)) e
 
-pub keeps-trans : (a b c : List Cell) → Keeps a b → Keeps b c → Keeps a c
-keeps-trans a b c h k l v some e = k l v some (h l v some e)
+pub keeps-trans : (groups : ℕ) (a b c : List Cell) → Keeps groups a b → Keeps groups b c → Keeps groups a c
+keeps-trans groups a b c h k l v some e = k l v some (h l v some e)
 
-pub keeps-adds : (cs : List Cell) → Keeps cs (cs ++ (0, false) ∷ [])
-keeps-adds cs l v some e = cell-adds cs l ∙ e
+pub keeps-adds : (groups : ℕ) (cs : List Cell) → Keeps groups cs (cs ++ (0, false) ∷ [])
+keeps-adds groups cs l v some e = cell-adds cs l ∙ e

@@ -8,9 +8,9 @@ use mathlib.Core.List.{IsPrefix}
 use Rattle.logbook.specs.Pages.{Nib, Book, Named as Word}
 use Rattle.answer_log.specs.Counts.{count}
 use Rattle.answer_log.specs.Handles.{EndsWith, IsHandle, IsNamed, SeesMore}
-use Rattle.answer_log.specs.Groups.{group_of}
+use Rattle.answer_log.specs.Groups.{group_in}
 use Rattle.answer_log.specs.Histories.{mine}
-use Rattle.answer_log.specs.Logs.{seat_of, seats_in, history, placed_of, top, top_from, In}
+use Rattle.answer_log.specs.Logs.{groups_in, seat_of, seats_in, history, placed_of, top, top_from, In}
 use Rattle.answer_log.specs.Rules.{node_at}
 use Rattle.answer_log.specs.Steps.{Adds, Fits, NamesBelow, Same, Stays}
 use Rattle.answer_log.specs.declared.event.Event.{Event}
@@ -20,12 +20,12 @@ use Rattle.answer_log.specs.declared.store.Store.{Store}
 use Rattle.answer_log.specs.declared.tally.Tally.{Tally}
 use Rattle.answer_log.proofs.Counting.{count-same, count-here}
 use Rattle.answer_log.proofs.Chains.{last_placed, top-on}
-use Rattle.answer_log.proofs.Logs.{Quiet, history-append, seats-append, quiet-in, in-cases, in-left, prefix_trans}
+use Rattle.answer_log.proofs.Logs.{Quiet, begun-seats, groups-prefix, history-append, seats-append, quiet-in, in-cases, in-left, prefix_trans}
 
 -- a log that is quiet of a seat has no stores of it
 own-quiet : (seat : ℕ) (events : List Event) → Quiet seat events → mine (history events) seat ≡ []
 own-quiet seat [] quiet = refl
-own-quiet seat (Opened t ∷ rest) quiet = own-quiet seat rest quiet.1
+own-quiet seat (Opened t g ∷ rest) quiet = own-quiet seat rest quiet.1
 own-quiet seat (Asks s t ∷ rest) quiet = own-quiet seat rest quiet.1
 own-quiet seat (Named n x l ∷ rest) quiet = own-quiet seat rest quiet.1
 own-quiet seat (Placed n x l ∷ rest) quiet = rw (ne_eqb x.seat seat quiet.0) (own-quiet seat rest quiet.1)
@@ -58,12 +58,30 @@ names_on old more new seat place whole quiet low n x l i same =
       | inr j ↦ absurd (quiet-in seat more (Named n x l) quiet j same)
     ]
 
+-- what a hand has not seen yet has its groups
+pub groups_seen : (h : Handle) (new : List Event) → IsHandle h → IsPrefix h.book.log new → groups_in new ≡ h.groups
+groups_seen h new handle p =
+    let some : 0 < seats_in h.book.log = (let seats = handle.seats in let below = handle.below in omega arith) in
+    groups-prefix h.book.log new p (begun-seats h.book.log some) ∙ handle.groups
+
 -- a hand goes on with the seats that its log was opened for
 seats_on : (h k : Handle) (more : List Event) → IsHandle h → k.seats ≡ h.seats → h.book.log ++ more ≡ k.book.log → seats_in k.book.log
     ≡ k.seats
 seats_on h k more handle same grown =
     let some : 0 < seats_in h.book.log = (let seats = handle.seats in let below = handle.below in omega arith) in
     ap seats_in (sym grown) ∙ (seats-append h.book.log more some ∙ (handle.seats ∙ sym same))
+
+-- and with the groups that it was opened with
+groups_on : (h k : Handle) (more : List Event) → IsHandle h → k.groups ≡ h.groups → h.book.log ++ more ≡ k.book.log
+    → groups_in k.book.log ≡ k.groups
+groups_on h k more handle same grown =
+    groups_seen h k.book.log handle (more, grown) ∙ sym same
+
+count_on : (h k : Handle) → IsHandle h → k.groups ≡ h.groups → (64 ≤ k.groups) × (k.groups ≤ 65536)
+count_on h k handle same =
+    let least = handle.group_count.0 in
+    let most = handle.group_count.1 in
+    (omega arith, omega arith)
 
 below_on : (h k : Handle) → IsHandle h → k.number ≡ h.number → k.seats ≡ h.seats → k.number < k.seats
 below_on h k handle number seats = let below = handle.below in omega arith
@@ -84,13 +102,16 @@ fits_on h k handle number names stays =
           handle.fits.3,
     )
 
-pub hand_on : (h k : Handle) (more : List Event) → IsHandle h → k.number ≡ h.number → k.seats ≡ h.seats → k.node_count ≡ h.node_count
+pub hand_on : (h k : Handle) (more : List Event) → IsHandle h → k.number ≡ h.number → k.seats ≡ h.seats → k.groups ≡ h.groups
+    → k.node_count ≡ h.node_count
     → k.book.names ≡ h.book.names → Same h.tally k.tally (count h.number k.book.log) → h.book.log ++ more ≡ k.book.log
     → IsHandle k
-hand_on h k more handle number seats node_count names same grown =
+hand_on h k more handle number seats groups node_count names same grown =
     let N : ℕ → Type 0 = λ n. NamesBelow n k.node_count k.book.log in
     let M : ℕ → Type 0 = λ n. NamesBelow h.number n k.book.log in record {
       seats = seats_on h k more handle seats grown;
+      groups = groups_on h k more handle groups grown;
+      group_count = count_on h k handle groups;
       below = below_on h k handle number seats;
       fits = fits_on h k handle number names same.0;
       counted = ap (λ n. count n k.book.log) number ∙ (same.2 ∙ sym same.1);
@@ -129,12 +150,13 @@ names_more seat p q log le low n x l i same = let h = low n x l i same in omega 
 
 -- a hand after an event of its seat
 pub handle_adds : (h k : Handle) (e : Event) → IsHandle h → Adds e h.tally h.book.log k.book.log → k.number ≡ h.number → k.seats ≡ h.seats
-    → h.node_count ≤ k.node_count → k.book.names ≡ h.book.names → Stays h.tally k.tally → k.tally.count ≡ h.tally.count + 1 → seat_of e
-    ≡ h.number
+    → k.groups ≡ h.groups → h.node_count ≤ k.node_count → k.book.names ≡ h.book.names → Stays h.tally k.tally
+    → k.tally.count ≡ h.tally.count + 1 → seat_of e ≡ h.number
     → ((n : ℕ) (x : Store) (l : ℕ) → e ≡ Named n x l → n < node_at h.number k.node_count)
     → IsHandle k
-handle_adds h k e handle a number seats node_count names stays more seat new =
+handle_adds h k e handle a number seats groups node_count names stays more seat new =
     let quiet = adds_quiet h e k.book.log handle a seat in
+    let whole : h.book.log ++ (a.0 ++ e ∷ []) ≡ k.book.log = sym (append_assoc h.book.log a.0 (e ∷ [])) ∙ sym a.1 in
     let N : ℕ → Type 0 = λ n. NamesBelow n k.node_count k.book.log in
     let L : List Event → Type 0 = λ l. NamesBelow h.number k.node_count l in
     let low = names_on h.book.log a.0 (h.book.log ++ a.0) h.number k.node_count refl quiet
@@ -143,7 +165,9 @@ handle_adds h k e handle a number seats node_count names stays more seat new =
     let one : count h.number k.book.log ≡ suc (count h.number (h.book.log ++ a.0)) =
     ap (count h.number) a.1 ∙ count-here h.number (h.book.log ++ a.0) e seat in
     let all : count h.number k.book.log ≡ k.tally.count = omega (arith, one, was, more) in record {
-      seats = seats_on h k (a.0 ++ e ∷ []) handle seats (sym (append_assoc h.book.log a.0 (e ∷ [])) ∙ sym a.1);
+      seats = seats_on h k (a.0 ++ e ∷ []) handle seats whole;
+      groups = groups_on h k (a.0 ++ e ∷ []) handle groups whole;
+      group_count = count_on h k handle groups;
       below = below_on h k handle number seats;
       fits = fits_on h k handle number names stays;
       counted = ap (λ n. count n k.book.log) number ∙ all;
@@ -179,14 +203,14 @@ placed_sees h new n x l handle same a =
     }
 
 -- where the node of a group placed last has changed, the history has grown
-grows : (group : ℕ) (old new : List Event) → IsPrefix old new → top group old ≢ top group new
+grows : (groups group : ℕ) (old new : List Event) → IsPrefix old new → top groups group old ≢ top groups group new
     → length (history old) < length (history new)
-grows group old new p ne =
+grows groups group old new p ne =
     let L : List Event → Type 0 = λ l. length (history old) < length (history l) in
-    subst L p.1 (elim (last_placed group (top group old) p.0) [
-      | inl h ↦ absurd (ne (sym h.0 ∙ (sym (top-on group 0 old p.0) ∙ ap (top group) p.1)))
+    subst L p.1 (elim (last_placed groups group (top groups group old) p.0) [
+      | inl h ↦ absurd (ne (sym h.0 ∙ (sym (top-on groups group 0 old p.0) ∙ ap (top groups group) p.1)))
       | inr h ↦
-          (let node : ℕ = top_from (top group old) (placed_of group p.0) in
+          (let node : ℕ = top_from (top groups group old) (placed_of groups group p.0) in
           let more : history p.0 ≡ history h.before ++ h.store ∷ history h.after =
           ap history h.split ∙ history-append h.before (Placed node h.store h.link ∷ h.after) in
           let n : length (history p.0) ≡ length (history h.before) + length (h.store ∷ history h.after) =
@@ -207,17 +231,18 @@ placed_low seat place m y k n x l q = absurd (cc (q))
 abbrev pub Tried : Bool → Handle → List Event → Tally → ℕ → Store → ℕ → ℕ → Nib → Nib → Type 0
 Tried won h new tally n x l old before after =
     MatchBool won (Adds (Placed n x l) h.tally h.book.log new × (tally.count ≡ h.tally.count + 1))
-    ((old ≢ top (group_of x.question) new) × (after ≡ before) × Same h.tally tally (count x.seat new))
+    ((old ≢ top (groups_in new) (group_in (groups_in new) x.question) new) × (after ≡ before) × Same h.tally tally (count x.seat new))
 
 module _ (h : Handle) (n : ℕ) (x : Store) (l old : ℕ) (before after : Nib) (handle : IsHandle h) (seat : x.seat ≡ h.number) where
-  pub tried_handle : (k : Handle) → k.number ≡ h.number → k.seats ≡ h.seats → k.node_count ≡ h.node_count → k.book.names ≡ h.book.names
+  pub tried_handle : (k : Handle) → k.number ≡ h.number → k.seats ≡ h.seats → k.groups ≡ h.groups → k.node_count ≡ h.node_count
+      → k.book.names ≡ h.book.names
       → Stays h.tally k.tally → IsPrefix h.book.log k.book.log
       → (won : Bool) → Tried won h k.book.log k.tally n x l old before after → IsHandle k
-  tried_handle k number seats node_count names stays pre true m =
-      handle_adds h k (Placed n x l) handle m.0 number seats (omega (arith, node_count)) names stays m.1 seat
+  tried_handle k number seats groups node_count names stays pre true m =
+      handle_adds h k (Placed n x l) handle m.0 number seats groups (omega (arith, node_count)) names stays m.1 seat
       (placed_low h.number k.node_count n x l)
-  tried_handle k number seats node_count names stays pre false m =
-      hand_on h k pre.0 handle number seats node_count names (m.2.0, m.2.1, ap (λ s. count s k.book.log) (sym seat) ∙ m.2.2) pre.1
+  tried_handle k number seats groups node_count names stays pre false m =
+      hand_on h k pre.0 handle number seats groups node_count names (m.2.0, m.2.1, ap (λ s. count s k.book.log) (sym seat) ∙ m.2.2) pre.1
 
   pub tried_sees : (new : List Event) (tally : Tally) → IsPrefix h.book.log new → (won : Bool)
       → Tried won h new tally n x l old before after
@@ -227,9 +252,13 @@ module _ (h : Handle) (n : ℕ) (x : Store) (l old : ℕ) (before after : Nib) (
 
   pub tried_lost : (new : List Event) (tally : Tally) → IsPrefix h.book.log new → (won : Bool)
       → Tried won h new tally n x l old before after
-      → MatchBool won (Unit {0}) ((seen : List Event) → IsPrefix seen h.book.log → top (group_of x.question) seen ≡ old
+      → MatchBool won (Unit {0}) ((seen : List Event) → IsPrefix seen h.book.log
+      → top h.groups (group_in h.groups x.question) seen ≡ old
       → length (history seen) < length (history new))
   tried_lost new tally pre true m = tt
   tried_lost new tally pre false m = λ seen later last.
-      let T : ℕ → Type 0 = λ node. node ≢ top (group_of x.question) new in
-      grows (group_of x.question) seen new (prefix_trans seen h.book.log new later pre) (subst T (sym last) m.0)
+      let on = groups_seen h new handle pre in
+      let G : ℕ → Type 0 = λ groups. old ≢ top groups (group_in groups x.question) new in
+      let group : ℕ = group_in h.groups x.question in
+      let T : ℕ → Type 0 = λ node. node ≢ top h.groups group new in
+      grows h.groups group seen new (prefix_trans seen h.book.log new later pre) (subst T (sym last) (subst G on m.0))

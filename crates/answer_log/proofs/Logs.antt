@@ -5,11 +5,11 @@ use Rattle.logbook.specs.Pages.{Cell, cell}
 use Rattle.answer_log.specs.declared.store.Store.{Store}
 use Rattle.answer_log.specs.declared.event.Event.{Event}
 use Rattle.answer_log.specs.declared.event.Event.TheVariants.{Asks, Named, Opened, Placed}
-use Rattle.answer_log.specs.Logs.{seat_of, seats_in, history, top_from, Linked, In, Unplaced, Once}
+use Rattle.answer_log.specs.Logs.{seat_of, groups_in, seats_in, history, top_from, Linked, In, Unplaced, Once}
 
 pub history-append : (xs ys : List Event) → history (xs ++ ys) ≡ history xs ++ history ys
 history-append [] ys = refl
-history-append (Opened t ∷ xs) ys = history-append xs ys
+history-append (Opened t g ∷ xs) ys = history-append xs ys
 history-append (Asks s t ∷ xs) ys = history-append xs ys
 history-append (Named n x l ∷ xs) ys = history-append xs ys
 history-append (Placed n x l ∷ xs) ys = ap (λ w. x ∷ w) (history-append xs ys)
@@ -19,6 +19,31 @@ pub seats-append : (xs ys : List Event) → 0 < seats_in xs → seats_in (xs ++ 
 seats-append [] ys some = absurd (omega arith)
 seats-append (e ∷ xs) ys some = refl
 
+-- a log has a first event
+abbrev pub Begun : List Event → Type 0
+Begun [] = ⊥
+Begun (first ∷ log) = Unit {0}
+
+pub begun-in : (e : Event) (log : List Event) → In e log → Begun log
+begun-in e [] i = i
+begun-in e (first ∷ log) i = tt
+
+pub begun-seats : (log : List Event) → 0 < seats_in log → Begun log
+begun-seats [] some = absurd (omega arith)
+begun-seats (first ∷ log) some = tt
+
+pub begun-groups : (log : List Event) → 0 < groups_in log → Begun log
+begun-groups [] some = absurd (omega arith)
+begun-groups (first ∷ log) some = tt
+
+-- a log goes on with the groups that it was opened with
+pub groups-append : (xs ys : List Event) → Begun xs → groups_in (xs ++ ys) ≡ groups_in xs
+groups-append [] ys begun = absurd begun
+groups-append (e ∷ xs) ys begun = refl
+
+pub groups-prefix : (old new : List Event) → IsPrefix old new → Begun old → groups_in new ≡ groups_in old
+groups-prefix old new p begun = ap groups_in (sym p.1) ∙ groups-append old p.0 begun
+
 pub seat-append : (s : ℕ) (xs ys : List Event) → s < seats_in xs → s < seats_in (xs ++ ys)
 seat-append s xs ys low = let same = seats-append xs ys (omega arith) in omega arith
 
@@ -27,35 +52,38 @@ seat-prefix s old new p low = let S : List Event → Type 0 = λ log. s < seats_
 
 pub top-append : (p : ℕ) (xs ys : List Event) → top_from p (xs ++ ys) ≡ top_from (top_from p xs) ys
 top-append p [] ys = refl
-top-append p (Opened t ∷ xs) ys = top-append p xs ys
+top-append p (Opened t g ∷ xs) ys = top-append p xs ys
 top-append p (Asks s t ∷ xs) ys = top-append p xs ys
 top-append p (Named n x l ∷ xs) ys = top-append p xs ys
 top-append p (Placed n x l ∷ xs) ys = top-append n xs ys
 
-pub linked-right : (cs : List Cell) (p : ℕ) (xs ys : List Event) → Linked cs p (xs ++ ys) → Linked cs (top_from p xs) ys
-linked-right cs p [] ys h = h
-linked-right cs p (Opened t ∷ xs) ys h = linked-right cs p xs ys h
-linked-right cs p (Asks s t ∷ xs) ys h = linked-right cs p xs ys h
-linked-right cs p (Named n x l ∷ xs) ys h = linked-right cs p xs ys h
-linked-right cs p (Placed n x l ∷ xs) ys h = linked-right cs n xs ys h.2
+pub linked-right : (groups : ℕ) (cs : List Cell) (p : ℕ) (xs ys : List Event) → Linked groups cs p (xs ++ ys)
+    → Linked groups cs (top_from p xs) ys
+linked-right groups cs p [] ys h = h
+linked-right groups cs p (Opened t g ∷ xs) ys h = linked-right groups cs p xs ys h
+linked-right groups cs p (Asks s t ∷ xs) ys h = linked-right groups cs p xs ys h
+linked-right groups cs p (Named n x l ∷ xs) ys h = linked-right groups cs p xs ys h
+linked-right groups cs p (Placed n x l ∷ xs) ys h = linked-right groups cs n xs ys h.2
 
-pub linked-append : (cs : List Cell) (p : ℕ) (xs ys : List Event) → Linked cs p xs → Linked cs (top_from p xs) ys → Linked cs p (xs ++ ys)
-linked-append cs p [] ys h r = r
-linked-append cs p (Opened t ∷ xs) ys h r = linked-append cs p xs ys h r
-linked-append cs p (Asks s t ∷ xs) ys h r = linked-append cs p xs ys h r
-linked-append cs p (Named n x l ∷ xs) ys h r = linked-append cs p xs ys h r
-linked-append cs p (Placed n x l ∷ xs) ys h r = (h.0, h.1, linked-append cs n xs ys h.2 r)
+pub linked-append : (groups : ℕ) (cs : List Cell) (p : ℕ) (xs ys : List Event) → Linked groups cs p xs
+    → Linked groups cs (top_from p xs) ys → Linked groups cs p (xs ++ ys)
+linked-append groups cs p [] ys h r = r
+linked-append groups cs p (Opened t g ∷ xs) ys h r = linked-append groups cs p xs ys h r
+linked-append groups cs p (Asks s t ∷ xs) ys h r = linked-append groups cs p xs ys h r
+linked-append groups cs p (Named n x l ∷ xs) ys h r = linked-append groups cs p xs ys h r
+linked-append groups cs p (Placed n x l ∷ xs) ys h r = (h.0, h.1, linked-append groups cs n xs ys h.2 r)
 
 -- what is at home stays so
-abbrev pub Keeps : List Cell → List Cell → Type 0
-Keeps cs cs' = (l v : ℕ) → 64 < l → cell cs l ≡ (v, true) → cell cs' l ≡ (v, true)
+abbrev pub Keeps : ℕ → List Cell → List Cell → Type 0
+Keeps groups cs cs' = (l v : ℕ) → groups < l → cell cs l ≡ (v, true) → cell cs' l ≡ (v, true)
 
-pub linked-map : (cs cs' : List Cell) (p : ℕ) (xs : List Event) → Keeps cs cs' → Linked cs p xs → Linked cs' p xs
-linked-map cs cs' p [] k h = tt
-linked-map cs cs' p (Opened t ∷ xs) k h = linked-map cs cs' p xs k h
-linked-map cs cs' p (Asks s t ∷ xs) k h = linked-map cs cs' p xs k h
-linked-map cs cs' p (Named n x l ∷ xs) k h = linked-map cs cs' p xs k h
-linked-map cs cs' p (Placed n x l ∷ xs) k h = (h.0, k l p h.0 h.1, linked-map cs cs' n xs k h.2)
+pub linked-map : (groups : ℕ) (cs cs' : List Cell) (p : ℕ) (xs : List Event) → Keeps groups cs cs'
+    → Linked groups cs p xs → Linked groups cs' p xs
+linked-map groups cs cs' p [] k h = tt
+linked-map groups cs cs' p (Opened t g ∷ xs) k h = linked-map groups cs cs' p xs k h
+linked-map groups cs cs' p (Asks s t ∷ xs) k h = linked-map groups cs cs' p xs k h
+linked-map groups cs cs' p (Named n x l ∷ xs) k h = linked-map groups cs cs' p xs k h
+linked-map groups cs cs' p (Placed n x l ∷ xs) k h = (h.0, k l p h.0 h.1, linked-map groups cs cs' n xs k h.2)
 
 -- no event is of the seat
 abbrev pub Quiet : ℕ → List Event → Type 0
@@ -89,21 +117,21 @@ prefix_trans xs ys zs p q = (p.0 ++ q.0, sym (append_assoc xs p.0 q.0) ∙ (ap (
 
 pub unplaced-right : (n : ℕ) (xs ys : List Event) → Unplaced n (xs ++ ys) → Unplaced n ys
 unplaced-right n [] ys h = h
-unplaced-right n (Opened t ∷ xs) ys h = unplaced-right n xs ys h
+unplaced-right n (Opened t g ∷ xs) ys h = unplaced-right n xs ys h
 unplaced-right n (Asks s t ∷ xs) ys h = unplaced-right n xs ys h
 unplaced-right n (Named m x l ∷ xs) ys h = unplaced-right n xs ys h
 unplaced-right n (Placed m x l ∷ xs) ys h = unplaced-right n xs ys h.1
 
 unplaced-append : (n : ℕ) (xs ys : List Event) → Unplaced n xs → Unplaced n ys → Unplaced n (xs ++ ys)
 unplaced-append n [] ys h r = r
-unplaced-append n (Opened t ∷ xs) ys h r = unplaced-append n xs ys h r
+unplaced-append n (Opened t g ∷ xs) ys h r = unplaced-append n xs ys h r
 unplaced-append n (Asks s t ∷ xs) ys h r = unplaced-append n xs ys h r
 unplaced-append n (Named m x l ∷ xs) ys h r = unplaced-append n xs ys h r
 unplaced-append n (Placed m x l ∷ xs) ys h r = (h.0, unplaced-append n xs ys h.1 r)
 
 pub unplaced-of : (n : ℕ) (xs : List Event) → ((x : Store) (l : ℕ) → In (Placed n x l) xs → ⊥) → Unplaced n xs
 unplaced-of n [] h = tt
-unplaced-of n (Opened t ∷ xs) h = unplaced-of n xs (λ x l i. h x l (inr i))
+unplaced-of n (Opened t g ∷ xs) h = unplaced-of n xs (λ x l i. h x l (inr i))
 unplaced-of n (Asks s t ∷ xs) h = unplaced-of n xs (λ x l i. h x l (inr i))
 unplaced-of n (Named m y k ∷ xs) h = unplaced-of n xs (λ x l i. h x l (inr i))
 unplaced-of n (Placed m y k ∷ xs) h = (
@@ -113,21 +141,21 @@ unplaced-of n (Placed m y k ∷ xs) h = (
 
 pub once-right : (xs ys : List Event) → Once (xs ++ ys) → Once ys
 once-right [] ys h = h
-once-right (Opened t ∷ xs) ys h = once-right xs ys h
+once-right (Opened t g ∷ xs) ys h = once-right xs ys h
 once-right (Asks s t ∷ xs) ys h = once-right xs ys h
 once-right (Named m x l ∷ xs) ys h = once-right xs ys h
 once-right (Placed m x l ∷ xs) ys h = once-right xs ys h.1
 
 pub once-named : (xs : List Event) (n : ℕ) (x : Store) (l : ℕ) → Once xs → Once (xs ++ Named n x l ∷ [])
 once-named [] n x l h = tt
-once-named (Opened t ∷ xs) n x l h = once-named xs n x l h
+once-named (Opened t g ∷ xs) n x l h = once-named xs n x l h
 once-named (Asks s t ∷ xs) n x l h = once-named xs n x l h
 once-named (Named m y k ∷ xs) n x l h = once-named xs n x l h
 once-named (Placed m y k ∷ xs) n x l h = (unplaced-append m xs (Named n x l ∷ []) h.0 tt, once-named xs n x l h.1)
 
 pub once-placed : (xs : List Event) (n : ℕ) (x : Store) (l : ℕ) → Unplaced n xs → Once xs → Once (xs ++ Placed n x l ∷ [])
 once-placed [] n x l u h = (tt, tt)
-once-placed (Opened t ∷ xs) n x l u h = once-placed xs n x l u h
+once-placed (Opened t g ∷ xs) n x l u h = once-placed xs n x l u h
 once-placed (Asks s t ∷ xs) n x l u h = once-placed xs n x l u h
 once-placed (Named m y k ∷ xs) n x l u h = once-placed xs n x l u h
 once-placed (Placed m y k ∷ xs) n x l u h = (
@@ -135,14 +163,14 @@ once-placed (Placed m y k ∷ xs) n x l u h = (
   once-placed xs n x l u.1 h.1,
 )
 
-pub in-linked : (cs : List Cell) (p : ℕ) (xs : List Event) (n : ℕ) (x : Store) (l : ℕ) → Linked cs p xs → In (Placed n x l) xs
-    → (cell cs l).1 ≡ true
-in-linked cs p [] n x l h i = absurd i
-in-linked cs p (Opened r ∷ xs) n x l h i = elim i [ inl q ↦ absurd (cc (q)) | inr j ↦ in-linked cs p xs n x l h j ]
-in-linked cs p (Asks s r ∷ xs) n x l h i = elim i [ inl q ↦ absurd (cc (q)) | inr j ↦ in-linked cs p xs n x l h j ]
-in-linked cs p (Named m y k ∷ xs) n x l h i = elim i [ inl q ↦ absurd (cc (q)) | inr j ↦ in-linked cs p xs n x l h j ]
-in-linked cs p (Placed m y k ∷ xs) n x l h i =
+pub in-linked : (groups : ℕ) (cs : List Cell) (p : ℕ) (xs : List Event) (n : ℕ) (x : Store) (l : ℕ)
+    → Linked groups cs p xs → In (Placed n x l) xs → (cell cs l).1 ≡ true
+in-linked groups cs p [] n x l h i = absurd i
+in-linked groups cs p (Opened r g ∷ xs) n x l h i = elim i [ inl q ↦ absurd (cc (q)) | inr j ↦ in-linked groups cs p xs n x l h j ]
+in-linked groups cs p (Asks s r ∷ xs) n x l h i = elim i [ inl q ↦ absurd (cc (q)) | inr j ↦ in-linked groups cs p xs n x l h j ]
+in-linked groups cs p (Named m y k ∷ xs) n x l h i = elim i [ inl q ↦ absurd (cc (q)) | inr j ↦ in-linked groups cs p xs n x l h j ]
+in-linked groups cs p (Placed m y k ∷ xs) n x l h i =
     elim i [
       | inl q ↦ (let e : k ≡ l = cc (q) in ap (λ j. (cell cs j).1) (sym e) ∙ ap (λ (c : Cell). c.1) h.1)
-      | inr j ↦ in-linked cs m xs n x l h.2 j
+      | inr j ↦ in-linked groups cs m xs n x l h.2 j
     ]

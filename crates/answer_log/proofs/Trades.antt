@@ -56,15 +56,15 @@ module _ {M : Type 1} {𝓤 : Ura M} (𝓛 : Logic 𝓤) where
       settle 𝓛 Z (‵ (roster δ (suc k) more) ⊛ ‵ (pens_own δ (suc k) n)) $ split ! $
       suffices ! _ (upd_i 𝓤 Z) $ move ! (2 ∷ 1 ∷ []) $ fjoin ! $ move ! (2 ∷ 1 ∷ []) $ fjoin ! $ done !
 
-  abbrev pub Begun : ℕ → ℕ → Pr
-  Begun seats δ = ⟦ keeps_counts (δ ∷ []) (Opened seats ∷ []) ⟧ ∗ ⟦ tallies_own δ 0 64 ⟧
+  abbrev pub Begun : ℕ → ℕ → ℕ → Pr
+  Begun seats groups δ = ⟦ keeps_counts (δ ∷ []) (Opened seats groups ∷ []) ⟧ ∗ ⟦ tallies_own δ 0 64 ⟧
 
-  pub begins : (seats : ℕ) → emp 𝓤 ⊢ H.⇛ (ex 𝓤 (Begun seats))
-  begins seats = qed 𝓛 [] ∵ updating ! $
+  pub begins : (seats groups : ℕ) → emp 𝓤 ⊢ H.⇛ (ex 𝓤 (Begun seats groups))
+  begins seats groups = qed 𝓛 [] ∵ updating ! $
       use0 𝓛 (later (some (λ (δ : ℕ). ‵ (roster δ 0 [])))) (via 𝓤 _ (entries_new halved 𝓛 0 (λ _. (full_share, 0))) (basic 𝓛 _)) $
       await ! tt $ pick ! (λ δ.
       use1 𝓛 (later (‵ (roster δ 0 (counts_from 0 64 [])) ⊛ ‵ (pens_own δ 0 64))) (via 𝓤 _ (rowed δ 64 0) (basic 𝓛 _)) $ await ! tt $
-      now ! $ show ! (Begun seats) δ $ done !)
+      now ! $ show ! (Begun seats groups) δ $ done !)
 
   -- the first seat's count leaves the row
   pub one_tally : (δ k n : ℕ) → 0 < n → ⟦ tallies_own δ k n ⟧ ⊢ ⟦ tally_owns true δ k 0 ⟧ ∗ ⟦ tallies_own δ (k + 1) (n - 1) ⟧

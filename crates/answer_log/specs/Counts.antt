@@ -40,7 +40,7 @@ first_seat [] = 0
 first_seat (e ∷ es) = seat_of e
 
 abbrev pub number_in : Event → ℕ
-number_in (Opened n) = 0
+number_in (Opened seats groups) = 0
 number_in (Asks s n) = n
 number_in (Named n x l) = 0
 number_in (Placed n x l) = 0

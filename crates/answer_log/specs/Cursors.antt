@@ -1,7 +1,7 @@
 -- A cursor along the placed nodes of a group, from the last one to the first.
 use Rattle.std.specs.Prelude.{◌≡◌, ℕ, List, ◌++◌}
 use Rattle.answer_log.specs.Histories.{in_group}
-use Rattle.answer_log.specs.Logs.{history, top}
+use Rattle.answer_log.specs.Logs.{groups_in, history, top}
 use Rattle.answer_log.specs.declared.event.Event.{Event}
 use Rattle.answer_log.specs.declared.store.Store.{Store}
 use Rattle.answer_log.specs.declared.cursor.Cursor.{Cursor}
@@ -13,5 +13,5 @@ pub record Ahead (cursor : Cursor) (left : List Store) : Type 0 where
   pub front : List Event
   pub back : List Event
   pub split : cursor.seen.log ≡ front ++ back
-  pub at : cursor.next ≡ top group front
-  pub stores : left ≡ in_group group (history front)
+  pub at : cursor.next ≡ top (groups_in cursor.seen.log) group front
+  pub stores : left ≡ in_group (groups_in cursor.seen.log) group (history front)

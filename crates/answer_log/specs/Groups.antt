@@ -23,6 +23,10 @@ hashed_of question = wire_of question.name ++ (type_of_kind question.kind / 256)
 abbrev pub group_limit : ℕ
 group_limit = 128
 
+-- the group of a question, one of so many
+abbrev pub group_in : ℕ → Question → ℕ
+group_in groups question = hash_of (hashed_of question) % groups
+
 -- the group of a question, one of 64
 abbrev pub group_of : Question → ℕ
-group_of question = hash_of (hashed_of question) % 64
+group_of question = group_in 64 question

@@ -5,7 +5,7 @@ use mathlib.Core.List.{IsPrefix}
 use Rattle.logbook.specs.Pages.{Book, Named as Word}
 use Rattle.answer_log.specs.Counts.{count}
 use Rattle.answer_log.specs.Histories.{IsHistory, in_group, mine}
-use Rattle.answer_log.specs.Logs.{history, In, seats_in, top}
+use Rattle.answer_log.specs.Logs.{groups_in, history, In, seats_in, top}
 use Rattle.answer_log.specs.Rules.{word_at}
 use Rattle.answer_log.specs.Spending.{Spending, nothing}
 use Rattle.answer_log.specs.Steps.{Fits, NamesBelow}
@@ -19,30 +19,34 @@ use Rattle.answer_log.specs.declared.store.Store.{Store}
 abbrev pub spent_of : Handle → Spending
 spent_of handle = handle.spent
 
--- The seat is one of those that the log was opened for. It has the count of its events in what it
--- has seen, and its nodes are below the next place.
+-- The seat is one of those that the log was opened for, with so many groups. It has the count of
+-- its events in what it has seen, and its nodes are below the next place.
 pub record IsHandle (handle : Handle) : Type 0 where
   pub seats : seats_in handle.book.log ≡ handle.seats
+  pub groups : groups_in handle.book.log ≡ handle.groups
+  pub group_count : (64 ≤ handle.groups) × (handle.groups ≤ 65536)
   pub below : handle.number < handle.seats
   pub fits : Fits handle.tally handle.book.names handle.number
   pub counted : count handle.number handle.book.log ≡ handle.tally.count
   pub names : NamesBelow handle.number handle.node_count handle.book.log
 
 -- a seat has seen nothing
-pub record IsNew (handle : Handle) (new_book : Book) (seat seats : ℕ) : Type 0 where
+pub record IsNew (handle : Handle) (new_book : Book) (seat seats groups : ℕ) : Type 0 where
   pub is : IsHandle handle
   pub book : handle.book.book ≡ new_book
   pub number : handle.number ≡ seat
   pub count : handle.seats ≡ seats
+  pub group_count : handle.groups ≡ groups
   pub node_count : handle.node_count ≡ 0
   pub spent : spent_of handle ≡ nothing
-  pub log : handle.book.log ≡ Opened seats ∷ []
+  pub log : handle.book.log ≡ Opened seats groups ∷ []
 
 -- the handle has what it had before, but for what it has spent
 pub record IsSame (old new : Handle) : Type 0 where
   pub handle : IsHandle new
   pub number : new.number ≡ old.number
   pub seats : new.seats ≡ old.seats
+  pub groups : new.groups ≡ old.groups
   pub node_count : new.node_count ≡ old.node_count
   pub book : new.book ≡ old.book
 
@@ -52,7 +56,8 @@ pub record AreHandles (handles : Handles) : Type 0 where
   pub next : handles.tallies.next ≡ handles.next
   pub left : handles.tallies.left + handles.next ≡ 64
   pub few : handles.seats ≤ 64
-  pub log : handles.seen.log ≡ Opened handles.seats ∷ []
+  pub group_count : (64 ≤ handles.groups) × (handles.groups ≤ 65536)
+  pub log : handles.seen.log ≡ Opened handles.seats handles.groups ∷ []
 
 -- the log names the node so
 pub record IsNamed (book : Book) (log : List Event) (node : ℕ) (store : Store)
@@ -90,6 +95,7 @@ pub record IsLog (log : List Event) : Type 0 where
       → log ≡ before ++ Placed node store link ∷ after → node ≢ 0
   -- the node of a group placed last tells which stores the group had by then
   pub tops : (front other : List Event) (group group' : ℕ) → IsPrefix front log
-      → IsPrefix other log → top group front ≡ top group' other
-      → in_group group (history front) ≡ in_group group' (history other)
-  pub history : IsHistory (history log)
+      → IsPrefix other log → top (groups_in log) group front ≡ top (groups_in log) group' other
+      → in_group (groups_in log) group (history front)
+      ≡ in_group (groups_in log) group' (history other)
+  pub history : IsHistory (groups_in log) (history log)

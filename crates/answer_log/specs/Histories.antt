@@ -6,7 +6,7 @@ use Rattle.dns_answers.specs.Records.{kind_of}
 use Rattle.dns_answers.specs.Values.{AnswerValue}
 use Rattle.dns_message.specs.Questions.{same_question}
 use Rattle.dns_message.specs.declared.question.Question.{Question}
-use Rattle.answer_log.specs.Groups.{group_limit, group_of}
+use Rattle.answer_log.specs.Groups.{group_in, group_limit}
 use Rattle.answer_log.specs.declared.store.Store.{Store}
 
 -- the stores of a question
@@ -23,13 +23,14 @@ abbrev pub cached : List Store → Question → ℕ → Option AnswerValue
 cached history question now =
     option_and_then (living now) (last_or None (stores_of question history))
 
--- the stores whose questions are in a group
-abbrev pub in_group : ℕ → List Store → List Store
-in_group group history = filter (λ store. group_of store.question == group) history
+-- the stores whose questions are in a group, one of so many
+abbrev pub in_group : ℕ → ℕ → List Store → List Store
+in_group groups group history = filter (λ store. group_in groups store.question == group) history
 
--- the group of the question has as many stores as it can have
-abbrev pub IsFull : List Store → Question → Type 0
-IsFull history question = group_limit ≤ length (in_group (group_of question) history)
+-- the group of the question, one of so many, has as many stores as it can have
+abbrev pub IsFull : ℕ → List Store → Question → Type 0
+IsFull groups history question =
+    group_limit ≤ length (in_group groups (group_in groups question) history)
 
 -- the stores of a seat
 abbrev pub mine : List Store → ℕ → List Store
@@ -39,7 +40,7 @@ mine history seat = filter (λ store. store.seat == seat) history
 abbrev pub IsSound : Store → Type 0
 IsSound store = (0 < store.answer.life) × (kind_of store.answer.records ≡ store.question.kind)
 
--- each store is sound, and no group has more than its limit
-pub record IsHistory (history : List Store) : Type 0 where
+-- each store is sound, and none of so many groups has more than its limit
+pub record IsHistory (groups : ℕ) (history : List Store) : Type 0 where
   pub sound : All IsSound history
-  pub few : (group : ℕ) → length (in_group group history) ≤ group_limit
+  pub few : (group : ℕ) → length (in_group groups group history) ≤ group_limit

@@ -7,9 +7,9 @@ use Rattle.dns_message.specs.declared.question.Question.{Question}
 use Rattle.logbook.specs.Pages.{Step, View, nib, may_make}
 use mathlib.Core.List.{IsPrefix}
 use Rattle.answer_log.specs.Counts.{count}
-use Rattle.answer_log.specs.Groups.{group_of}
+use Rattle.answer_log.specs.Groups.{group_in}
 use Rattle.answer_log.specs.Histories.{IsFull}
-use Rattle.answer_log.specs.Logs.{seat_of, history, top, In}
+use Rattle.answer_log.specs.Logs.{groups_in, seat_of, history, top, In}
 use Rattle.answer_log.specs.Rules.{node_at}
 use Rattle.answer_log.specs.declared.event.Counted.{Counted}
 use Rattle.answer_log.specs.declared.event.Event.{Event}
@@ -34,12 +34,13 @@ NamesBelow seat place log =
     (node : ℕ) (store : Store) (link : ℕ) → In (Named node store link) log → store.seat ≡ seat
     → node < node_at seat place
 
--- at some moment the head of the question's group led to this node, and the group was not full then
-pub record HadRoom (log : List Event) (node : ℕ) (question : Question) : Type 0 where
+-- at some moment the head of the question's group, one of so many, led to this node, and the group
+-- was not full then
+pub record HadRoom (groups : ℕ) (log : List Event) (node : ℕ) (question : Question) : Type 0 where
   pub seen : List Event
   pub later : IsPrefix seen log
-  pub top : top (group_of question) seen ≡ node
-  pub room : IsFull (history seen) question → ⊥
+  pub top : top groups (group_in groups question) seen ≡ node
+  pub room : IsFull groups (history seen) question → ⊥
 
 -- a tally is that of a seat, in the log of these names
 abbrev pub Fits : Tally → List ℕ → ℕ → Type 0
@@ -76,23 +77,23 @@ Rose event before after counted = (counted.after ≡ counted.before + 1)
 
 -- the head of a group leads to its node placed last
 abbrev pub Looks : Step Event → View Event Counted → ℕ → View Event Counted → Type 0
-Looks s v found w = (found ≡ top s.key w.0) × Says w (Kept (seat_of s.ask) w.0)
+Looks s v found w = (found ≡ top (groups_in w.0) s.key w.0) × Says w (Kept (seat_of s.ask) w.0)
 
 -- the link of a placed node leads to the one of its group placed before it
 abbrev pub Follows : Step Event → View Event Counted → ℕ → View Event Counted → Type 0
 Follows s v found w =
     (before after : List Event) (node : ℕ) (store : Store)
     → v.0 ≡ before ++ Placed node store s.key ∷ after
-    → found ≡ top (group_of store.question) before
+    → found ≡ top (groups_in v.0) (group_in (groups_in v.0) store.question) before
 
 abbrev pub linked_to : Event → ℕ → Event
-linked_to (Opened seats) link = Opened seats
+linked_to (Opened seats groups) link = Opened seats groups
 linked_to (Asks seat count) link = Asks seat count
 linked_to (Named node store _) link = Named node store link
 linked_to (Placed node store _) link = Placed node store link
 
 abbrev pub node_of : Event → ℕ
-node_of (Opened seats) = 0
+node_of (Opened seats groups) = 0
 node_of (Asks seat count) = 0
 node_of (Named node store link) = node
 node_of (Placed node store link) = node
@@ -105,7 +106,7 @@ IsTaken node log = (store : Store) × (link : ℕ) × In (Named node store link)
 -- A cell is made. The node was new and is named with that cell as its link, or it was named already
 -- and nothing is added.
 abbrev pub Claims : Step Event → View Event Counted → ℕ → View Event Counted → Type 0
-Claims s v found w = (link : ℕ) × (64 < link) × (w.1.0 ≡ nib may_make link 0)
+Claims s v found w = (link : ℕ) × (groups_in w.0 < link) × (w.1.0 ≡ nib may_make link 0)
     × Says w (λ counted. Rose (linked_to s.ask link) v.0 w.0 counted
     ⊎ (Kept (seat_of s.ask) w.0 counted × IsTaken (node_of s.ask) w.0))
 
@@ -114,4 +115,4 @@ Claims s v found w = (link : ℕ) × (64 < link) × (w.1.0 ≡ nib may_make link
 abbrev pub Tries : Step Event → View Event Counted → ℕ → View Event Counted → Type 0
 Tries s v found w = Says w
     (λ counted. MatchBool (found == s.old) (Rose (linked_to s.ask v.1.0.key) v.0 w.0 counted)
-    ((found ≡ top s.key w.0) × (w.1.0 ≡ v.1.0) × Kept (seat_of s.ask) w.0 counted))
+    ((found ≡ top (groups_in w.0) s.key w.0) × (w.1.0 ≡ v.1.0) × Kept (seat_of s.ask) w.0 counted))

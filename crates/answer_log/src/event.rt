@@ -3,8 +3,8 @@ use crate::store::Store;
 
 /// What the log has. A link is the key of a cell.
 pub enum Event {
-    /// The first event of a log, which has this number of seats.
-    Opened(u64),
+    /// The first event of a log, which has this number of seats and this number of groups.
+    Opened(u64, u32),
     /// How a seat asks what the log has of it, and says how many events it knows of.
     Asks(u64, u64),
     /// The node of this number has this store and this link.

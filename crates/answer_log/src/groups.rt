@@ -4,8 +4,14 @@ ghost use Rattle.answer_log.specs.Groups.{group_of, hash_more, hash_of, hashed_o
 
 use dns_message::Question;
 
-/// How many groups there are.
+/// How many groups there are where nothing says how many.
 pub const GROUP_COUNT: u8 = 64;
+
+/// How many groups a log has at least: 64.
+pub const LEAST_GROUPS: u32 = 64;
+
+/// How many groups a log can have: 65,536.
+pub const MOST_GROUPS: u32 = 65_536;
 
 /// How many stores of one group there can be.
 pub const GROUP_LIMIT: usize = 128;
@@ -41,10 +47,19 @@ pub fn group(question: &Question) -> u8
     group_of_hash(hash(question))
 }
 
-/// The group of all questions with a hash.
+/// The group of all questions with a hash, one of 64.
 #[must_use]
 pub fn group_of_hash(hash: u32) -> u8
     ensures { result ≡ hash % 64 }
 {
     (hash % u32::from(GROUP_COUNT)) as u8
+}
+
+/// The group of all questions with a hash, one of so many.
+#[must_use]
+pub fn group_among(hash: u32, groups: u32) -> u32
+    requires { 0 < groups }
+    ensures { result ≡ hash % groups }
+{
+    hash % groups
 }

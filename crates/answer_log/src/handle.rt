@@ -7,12 +7,13 @@ use crate::spent::Spent;
 use crate::steps::SeenLog;
 use crate::tally::{Tallies, Tally};
 
-/// What a seat has at the log: its number, how many seats there are, the place of its next node,
-/// its count, what it has seen, and what its calls have spent.
+/// What a seat has at the log: its number, how many seats and how many groups there are, the place
+/// of its next node, its count, what it has seen, and what its calls have spent.
 #[derive(Drop)]
 pub struct Handle {
     pub number: u64,
     pub seats: u64,
+    pub groups: u32,
     pub node_count: u64,
     pub tally: Tally,
     pub book: SeenLog,
@@ -35,6 +36,7 @@ impl Handle {
 pub struct Handles {
     pub next: u64,
     pub seats: u64,
+    pub groups: u32,
     pub tallies: Tallies,
     pub seen: SeenLog,
 }
@@ -47,15 +49,18 @@ impl Handles {
         ensures handles { AreHandles self.new }
         ensures next { self.new.next ≡ self.old.next + 1 }
         ensures seats { self.new.seats ≡ self.old.seats }
+        ensures groups { self.new.groups ≡ self.old.groups }
         ensures book { self.new.seen.book ≡ self.old.seen.book }
         ensures seen { (self.new.seen ≡ self.old.seen) × (result.book ≡ self.old.seen) }
-        ensures handle { IsNew result self.old.seen.book self.old.next self.old.seats }
+        ensures handle { IsNew result self.old.seen.book self.old.next
+            self.old.seats self.old.groups }
     {
         let number = self.next;
         self.next += 1;
         Handle {
             number,
             seats: self.seats,
+            groups: self.groups,
             node_count: 0,
             tally: self.tallies.take(),
             book: self.seen.again(),

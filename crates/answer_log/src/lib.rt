@@ -2,19 +2,21 @@
 //! grow.
 //!
 //! A store says which answer a question had at a moment, and which seat stored it. The log is the
-//! list of all events so far, in the order of time. The first event says how many seats there are.
-//! Each other one names a node for a store, or places a node that was named. The history is the
-//! list of the stores whose nodes were placed, the oldest first. Nothing leaves the log, so what
-//! was seen of it stays true.
+//! list of all events so far, in the order of time. The first event says how many seats and how
+//! many groups there are. Each other one names a node for a store, or places a node that was named.
+//! The history is the list of the stores whose nodes were placed, the oldest first. Nothing leaves
+//! the log, so what was seen of it stays true.
 //!
-//! No value of the log is made, and what a program has is words. Each question is in one of 64
-//! groups, and each group has a head, which holds the number of its node placed last. The link of
+//! No value of the log is made, and what a program has is words. `Log::open` is told how many
+//! groups there are, 64 to 65,536 of them. Each question is in one group, by its hash modulo their
+//! number, and each group has a head, which holds the number of its node placed last. The link of
 //! each placed node holds the number of the node of its group placed before it. 0 is the number of
-//! no node. A seat numbers its nodes by its own number and a place: node 1 + seat + 64 * place.
+//! no node. A seat numbers its nodes by its own number and a place: node 1 + seat + 64 * place,
+//! where 64 is the greatest number of seats.
 //!
 //! ```text
-//!  events   Opened 2, Named 1 a, Placed 1 a, Named 2 b, Named 65 c, Placed 2 b, Placed 65 c,
-//!           Named 66 d                            a and c are in group 6, b and d in group 45
+//!  events   Opened 2 64, Named 1 a, Placed 1 a, Named 2 b, Named 65 c, Placed 2 b, Placed 65 c,
+//!           Named 66 d           2 seats, 64 groups: a and c are in group 6, b and d in group 45
 //!
 //!  head 6    node 65      node 1
 //! +----+     store c      store a
@@ -82,7 +84,9 @@ mod tally;
 
 pub use cursor::Cursor;
 pub use event::{Counted, Event};
-pub use groups::{GROUP_COUNT, GROUP_LIMIT, group, group_of_hash, hash};
+pub use groups::{
+    GROUP_COUNT, GROUP_LIMIT, LEAST_GROUPS, MOST_GROUPS, group, group_among, group_of_hash, hash,
+};
 pub use handle::{Handle, Handles};
 pub use log::{
     ClaimedNode, Log, law_histories_are_one, law_log_keeps_its_rule, law_placed_is_named,

@@ -6,7 +6,7 @@ ghost use Rattle.logbook.specs.Pages.{Named as Link, may_write};
 ghost use Rattle.answer_log.specs.Handles.{AreHandles, EndsWith, IsHandle, IsLog, IsNamed, IsPlaced};
 ghost use Rattle.answer_log.specs.Handles.{SeesMore, spent_of};
 ghost use Rattle.answer_log.specs.Spending.{one_try};
-ghost use Rattle.answer_log.specs.Groups.{group_of};
+ghost use Rattle.answer_log.specs.Groups.{group_in};
 ghost use Rattle.answer_log.specs.Histories.{IsSound, in_group};
 ghost use Rattle.answer_log.specs.Logs.{history, top};
 ghost use Rattle.answer_log.specs.Rules.{heads_of, node_at, word_at};
@@ -17,7 +17,6 @@ ghost use Rattle.answer_log.specs.declared.store.Store.{Store};
 
 use crate::cursor::Cursor;
 use crate::event::Event;
-use crate::groups::GROUP_COUNT;
 use crate::handle::{Handle, Handles};
 use crate::nodes::node_at;
 use crate::steps::{Pen, SeenLog, Word, claim_node, place, top_node};
@@ -30,14 +29,14 @@ use std::alloc::{AllocError, Global};
 use std::marker::Model;
 use std::sync::Arc;
 
-/// The log of a new book has no store, and says how many seats there are.
+/// The log of a new book has no store, and says how many seats and how many groups there are.
 struct Blank;
 
-impl Opening<u64, Event> for Blank {
+impl Opening<(u64, u32), Event> for Blank {
     ghost use Rattle.std.specs.Prelude.{◌∷◌, []};
     ghost use Rattle.answer_log.specs.declared.event.Event.TheVariants.{Opened};
 
-    ghost log = { λ words seats. Opened seats ∷ [] };
+    ghost log = { λ words size. Opened size.0 size.1 ∷ [] };
 }
 
 /// The log: the head of each group, which leads to its node placed last, and a word that holds 0.
@@ -48,18 +47,17 @@ pub struct Log {
 }
 
 impl Model for Log {
-    ghost use Rattle.std.specs.Prelude.{◌≡◌};
-    ghost use Rattle.logbook.specs.Pages.{Book, book_coded};
-    ghost use Rattle.answer_log.specs.Rules.{heads_of, word_at};
+    ghost use Rattle.std.specs.Prelude.{◌≡◌, length};
+    ghost use Rattle.answer_log.specs.Rules.{LogView, heads_of, log_coded, log_view, word_at};
 
-    ghost Value = { Book };
+    ghost Value = { LogView };
 
-    ghost coded = { book_coded };
+    ghost coded = { log_coded };
 
-    ghost view = { λ log. log.idle.book };
+    ghost view = { λ log. log_view log.idle.book (length log.heads.items) };
 
-    ghost invariant = { λ log. (log.heads.items ≡ heads_of log.idle.book 64)
-        × (log.idle ≡ word_at log.idle.book 64) };
+    ghost invariant = { λ log. (log.heads.items ≡ heads_of log.idle.book (length log.heads.items))
+        × (log.idle ≡ word_at log.idle.book (length log.heads.items)) };
 }
 
 /// A node that was named, its link, and what writes the link.
@@ -70,15 +68,15 @@ pub struct ClaimedNode {
     pub pen: Pen,
 }
 
-/// The heads of all groups, by the first rights of a new book.
-fn make_heads(alloc: Global, pens: &mut Pens) -> Result<Vec<Word>, AllocError>
-    requires pens { (pens.old.next ≡ 0) × (pens.old.left ≡ 65) }
-    ensures heads { IfOk result (λ heads. heads.items ≡ heads_of pens.old.book 64) }
-    ensures rest { IfOk result (λ _. (pens.new.book ≡ pens.old.book) × (pens.new.next ≡ 64)
+/// The heads of so many groups, by the first rights of a new book.
+fn make_heads(alloc: Global, pens: &mut Pens, groups: u32) -> Result<Vec<Word>, AllocError>
+    requires pens { (pens.old.next ≡ 0) × (pens.old.left ≡ groups + 1) }
+    ensures heads { IfOk result (λ heads. heads.items ≡ heads_of pens.old.book groups) }
+    ensures rest { IfOk result (λ _. (pens.new.book ≡ pens.old.book) × (pens.new.next ≡ groups)
         × (pens.new.left ≡ 1)) }
 {
-    let mut heads = Vec::new(alloc);
-    'groups: for _group in 0..GROUP_COUNT {
+    let mut heads = Vec::with_capacity(alloc, groups as usize)?;
+    'groups: for _group in 0..groups {
         let mut pen = pens.take();
         heads.push(Word::tracked(0, &mut pen))?;
     }
@@ -86,21 +84,30 @@ fn make_heads(alloc: Global, pens: &mut Pens) -> Result<Vec<Word>, AllocError>
 }
 
 impl Log {
-    /// Opens a log without stores, and gives what its seats have at it.
-    pub fn open(alloc: Global, seats: u64) -> Result<(Log, Handles), AllocError>
+    /// Opens a log without stores, of so many groups, and gives what its seats have at it.
+    pub fn open(alloc: Global, seats: u64, groups: u32) -> Result<(Log, Handles), AllocError>
         requires seats { seats ≤ 64 }
-        ensures book { IfOk result (λ made. made.0 ≡ made.1.seen.book) }
+        requires groups { (64 ≤ groups) × (groups ≤ 65536) }
+        ensures book { IfOk result (λ made. made.0.book ≡ made.1.seen.book) }
+        ensures groups { IfOk result
+            (λ made. (made.0.groups ≡ groups) × (made.1.groups ≡ groups)) }
         ensures first { IfOk result (λ made. (made.1.next ≡ 0) × (made.1.seats ≡ seats)) }
         ensures handles { IfOk result (λ made. AreHandles made.1) }
     {
-        let (start, tallies) = Tallies::open(seats);
-        let (seen, mut pens) = SeenLog::open_row::<u64, Blank>(&seats, start, 65);
-        let heads = make_heads(alloc, &mut pens)?;
+        let (start, tallies) = Tallies::open(seats, groups);
+        let words = groups as usize + 1;
+        let (seen, mut pens) = SeenLog::open_row::<(u64, u32), Blank>(
+            &(seats, groups),
+            start,
+            words,
+        );
+        let heads = make_heads(alloc, &mut pens, groups)?;
         let mut pen = pens.take();
         let idle = Word::tracked(0, &mut pen);
         let handles = Handles {
             next: 0,
             seats,
+            groups,
             tallies,
             seen,
         };
@@ -108,32 +115,36 @@ impl Log {
     }
 
     /// The head of a group.
-    fn head(&self, group: u8) -> &Word
-        requires { group < 64 }
-        ensures { result.now ≡ word_at self.now group }
+    fn head(&self, group: u32) -> &Word
+        requires { group < self.now.groups }
+        ensures { result.now ≡ word_at self.now.book group }
     {
         &self.heads[group as usize]
     }
 
     /// Sees what a notice says, and what came since: a cursor from the node of a group placed last,
     /// by one load of its head.
-    pub fn cursor_after(&self, handle: &mut Handle, told: &SeenLog, group: u8) -> Cursor
-        requires book { handle.old.book.book ≡ self.now }
-        requires told { told.now.book ≡ self.now }
+    pub fn cursor_after(&self, handle: &mut Handle, told: &SeenLog, group: u32) -> Cursor
+        requires book { handle.old.book.book ≡ self.now.book }
+        requires groups { handle.old.groups ≡ self.now.groups }
+        requires told { told.now.book ≡ self.now.book }
         requires handle { IsHandle handle.old }
-        requires group { group < 64 }
+        requires group { group < self.now.groups }
         ensures handle { IsHandle handle.new }
         ensures number { (handle.new.number ≡ handle.old.number)
-            × (handle.new.seats ≡ handle.old.seats) }
-        ensures book { (handle.new.book.book ≡ self.now)
+            × (handle.new.seats ≡ handle.old.seats)
+            × (handle.new.groups ≡ handle.old.groups) }
+        ensures book { (handle.new.book.book ≡ self.now.book)
             × (handle.new.book.names ≡ handle.old.book.names) }
         ensures seen { SeesMore handle.old.number handle.old.book.log handle.new.book.log }
         ensures told { IsPrefix told.now.log handle.new.book.log }
         ensures node_count { handle.new.node_count ≡ handle.old.node_count }
         ensures spent { spent_of handle.new ≡ spent_of handle.old }
-        ensures cursor { (result.seen.book ≡ self.now) × (result.seen.log ≡ handle.new.book.log)
-            × (result.next ≡ top group handle.new.book.log) }
-        ensures ahead { Ahead result (in_group group (history handle.new.book.log)) }
+        ensures cursor { (result.seen.book ≡ self.now.book)
+            × (result.seen.log ≡ handle.new.book.log)
+            × (result.next ≡ top self.now.groups group handle.new.book.log) }
+        ensures ahead { Ahead result
+            (in_group self.now.groups group (history handle.new.book.log)) }
     {
         handle.book.learn(told);
         let head = self.head(group);
@@ -151,21 +162,25 @@ impl Log {
     }
 
     /// A cursor from the node of a group placed last: one load of its head.
-    pub fn cursor(&self, handle: &mut Handle, group: u8) -> Cursor
-        requires book { handle.old.book.book ≡ self.now }
+    pub fn cursor(&self, handle: &mut Handle, group: u32) -> Cursor
+        requires book { handle.old.book.book ≡ self.now.book }
+        requires groups { handle.old.groups ≡ self.now.groups }
         requires handle { IsHandle handle.old }
-        requires group { group < 64 }
+        requires group { group < self.now.groups }
         ensures handle { IsHandle handle.new }
         ensures number { (handle.new.number ≡ handle.old.number)
-            × (handle.new.seats ≡ handle.old.seats) }
-        ensures book { (handle.new.book.book ≡ self.now)
+            × (handle.new.seats ≡ handle.old.seats)
+            × (handle.new.groups ≡ handle.old.groups) }
+        ensures book { (handle.new.book.book ≡ self.now.book)
             × (handle.new.book.names ≡ handle.old.book.names) }
         ensures seen { SeesMore handle.old.number handle.old.book.log handle.new.book.log }
         ensures node_count { handle.new.node_count ≡ handle.old.node_count }
         ensures spent { spent_of handle.new ≡ spent_of handle.old }
-        ensures cursor { (result.seen.book ≡ self.now) × (result.seen.log ≡ handle.new.book.log)
-            × (result.next ≡ top group handle.new.book.log) }
-        ensures ahead { Ahead result (in_group group (history handle.new.book.log)) }
+        ensures cursor { (result.seen.book ≡ self.now.book)
+            × (result.seen.log ≡ handle.new.book.log)
+            × (result.next ≡ top self.now.groups group handle.new.book.log) }
+        ensures ahead { Ahead result
+            (in_group self.now.groups group (history handle.new.book.log)) }
     {
         let told = handle.book.again();
         self.cursor_after(handle, &told, group)
@@ -173,13 +188,15 @@ impl Log {
 
     /// Sees what a notice says, and what came since: one load of a head.
     pub fn learn(&self, handle: &mut Handle, told: &SeenLog)
-        requires book { handle.old.book.book ≡ self.now }
-        requires told { told.now.book ≡ self.now }
+        requires book { handle.old.book.book ≡ self.now.book }
+        requires groups { handle.old.groups ≡ self.now.groups }
+        requires told { told.now.book ≡ self.now.book }
         requires handle { IsHandle handle.old }
         ensures handle { IsHandle handle.new }
         ensures number { (handle.new.number ≡ handle.old.number)
-            × (handle.new.seats ≡ handle.old.seats) }
-        ensures book { handle.new.book.book ≡ self.now }
+            × (handle.new.seats ≡ handle.old.seats)
+            × (handle.new.groups ≡ handle.old.groups) }
+        ensures book { handle.new.book.book ≡ self.now.book }
         ensures seen { SeesMore handle.old.number handle.old.book.log handle.new.book.log }
         ensures spent { spent_of handle.new ≡ spent_of handle.old }
         ensures told { IsPrefix (history told.now.log) (history handle.new.book.log) }
@@ -190,13 +207,16 @@ impl Log {
     /// Sees just what a notice says: one load of a head. What it says goes on from what the seat
     /// has seen. The load shows that it has no event of this seat that is new.
     pub fn meet(&self, handle: &mut Handle, told: &SeenLog)
-        requires book { handle.old.book.book ≡ self.now }
+        requires book { handle.old.book.book ≡ self.now.book }
+        requires groups { handle.old.groups ≡ self.now.groups }
         requires handle { IsHandle handle.old }
-        requires told { (told.now.book ≡ self.now) × (told.now.names ≡ handle.old.book.names)
+        requires told { (told.now.book ≡ self.now.book)
+            × (told.now.names ≡ handle.old.book.names)
             × IsPrefix handle.old.book.log told.now.log }
         ensures handle { IsHandle handle.new }
         ensures number { (handle.new.number ≡ handle.old.number)
-            × (handle.new.seats ≡ handle.old.seats) }
+            × (handle.new.seats ≡ handle.old.seats)
+            × (handle.new.groups ≡ handle.old.groups) }
         ensures node_count { handle.new.node_count ≡ handle.old.node_count }
         ensures spent { spent_of handle.new ≡ spent_of handle.old }
         ensures book { handle.new.book ≡ told.now }
@@ -219,22 +239,24 @@ impl Log {
         answer: &Arc<Answer>,
         moment: Moment,
     ) -> ClaimedNode
-        requires book { handle.old.book.book ≡ self.now }
+        requires book { handle.old.book.book ≡ self.now.book }
+        requires groups { handle.old.groups ≡ self.now.groups }
         requires handle { IsHandle handle.old }
         requires place { (handle.old.node_count ≤ place) × (place < 2 ^ 32) }
         ensures handle { IsHandle handle.new }
         ensures number { (handle.new.number ≡ handle.old.number)
-            × (handle.new.seats ≡ handle.old.seats) }
-        ensures book { (handle.new.book.book ≡ self.now)
+            × (handle.new.seats ≡ handle.old.seats)
+            × (handle.new.groups ≡ handle.old.groups) }
+        ensures book { (handle.new.book.book ≡ self.now.book)
             × (handle.new.book.names ≡ handle.old.book.names) }
         ensures node_count { handle.new.node_count ≡ place + 1 }
         ensures spent { spent_of handle.new ≡ spent_of handle.old }
         ensures seen { SeesMore handle.old.number handle.old.book.log handle.new.book.log }
         ensures node { result.node ≡ node_at handle.old.number place }
-        ensures named { IsNamed self.now handle.new.book.log result.node
+        ensures named { IsNamed self.now.book handle.new.book.log result.node
             (store_by handle.old.number question.now (arc_value answer.now) moment) result.link }
-        ensures pen { (result.pen.book ≡ self.now) × (result.pen.nib.right ≡ may_write)
-            × (result.pen.nib.key ≡ result.link.key) × (64 < result.link.key) }
+        ensures pen { (result.pen.book ≡ self.now.book) × (result.pen.nib.right ≡ may_write)
+            × (result.pen.nib.key ≡ result.link.key) × (self.now.groups < result.link.key) }
     {
         let node = node_at(handle.number, place);
         let new_store = NewStore {
@@ -265,24 +287,27 @@ impl Log {
         pen: &mut Pen,
         old: u64,
         new_store: &NewStore<'_>,
-        group: u8,
+        group: u32,
         link: &Word,
     ) -> bool
-        requires book { handle.old.book.book ≡ self.now }
+        requires book { handle.old.book.book ≡ self.now.book }
+        requires groups { handle.old.groups ≡ self.now.groups }
         requires handle { IsHandle handle.old }
         requires seat { new_store.now.seat ≡ handle.old.number }
-        requires group { (group ≡ group_of new_store.now.question.now) × (group < 64) }
-        requires room { HadRoom handle.old.book.log old new_store.now.question.now }
+        requires group { group ≡ group_in self.now.groups new_store.now.question.now }
+        requires room { HadRoom self.now.groups handle.old.book.log old
+            new_store.now.question.now }
         requires sound { IsSound (store_of new_store.now) }
-        requires named { IsNamed self.now handle.old.book.log
+        requires named { IsNamed self.now.book handle.old.book.log
             new_store.now.node (store_of new_store.now) link.now }
-        requires pen { (pen.old.book ≡ self.now) × (pen.old.nib.right ≡ may_write)
+        requires pen { (pen.old.book ≡ self.now.book) × (pen.old.nib.right ≡ may_write)
             × (pen.old.nib.key ≡ link.now.key)
-            × (pen.old.nib.value ≡ old) × (64 < link.now.key) }
+            × (pen.old.nib.value ≡ old) × (self.now.groups < link.now.key) }
         ensures handle { IsHandle handle.new }
         ensures number { (handle.new.number ≡ handle.old.number)
-            × (handle.new.seats ≡ handle.old.seats) }
-        ensures book { (handle.new.book.book ≡ self.now)
+            × (handle.new.seats ≡ handle.old.seats)
+            × (handle.new.groups ≡ handle.old.groups) }
+        ensures book { (handle.new.book.book ≡ self.now.book)
             × (handle.new.book.names ≡ handle.old.book.names) }
         ensures node_count { handle.new.node_count ≡ handle.old.node_count }
         ensures spent { spent_of handle.new ≡ one_try (spent_of handle.old) }
@@ -293,10 +318,10 @@ impl Log {
         // Other stores came in between.
         ensures lost { MatchBool result (Unit {0})
             ((seen : List Noted) → IsPrefix seen handle.old.book.log
-            → top (group_of new_store.now.question.now) seen ≡ old
+            → top self.now.groups (group_in self.now.groups new_store.now.question.now) seen ≡ old
             → length (history seen) < length (history handle.new.book.log)) }
         ensures pen { MatchBool result (Unit {0})
-            ((pen.new.book ≡ self.now) × (pen.new.nib.right ≡ may_write)
+            ((pen.new.book ≡ self.now.book) × (pen.new.nib.right ≡ may_write)
             × (pen.new.nib.key ≡ link.now.key)) }
     {
         handle.spent = handle.spent.with_try();

@@ -4,10 +4,10 @@ ghost use Rattle.std.specs.Prelude.{true};
 ghost use mathlib.Core.List.{IsPrefix};
 ghost use Rattle.logbook.specs.Pages.{nib, may_make, may_write};
 ghost use Rattle.answer_log.specs.Counts.{count, first_name, first_seat, first_count};
-ghost use Rattle.answer_log.specs.Groups.{group_of};
+ghost use Rattle.answer_log.specs.Groups.{group_in};
 ghost use Rattle.answer_log.specs.Histories.{IsSound};
 ghost use Rattle.answer_log.specs.Handles.{IsNamed};
-ghost use Rattle.answer_log.specs.Logs.{In, seats_in, top};
+ghost use Rattle.answer_log.specs.Logs.{In, groups_in, seats_in, top};
 ghost use Rattle.answer_log.specs.declared.event.Event.{Event as Noted};
 ghost use Rattle.answer_log.specs.Rules.{node_at, word_at};
 ghost use Rattle.answer_log.specs.Steps.{Adds, Fits, HadRoom, NamesBelow, Same, Stays, store_of};
@@ -127,17 +127,17 @@ fn settle(tally: &mut Tally, deal: Deal)
 /// had as many events of the seat as the tally says.
 pub(crate) fn top_node(
     head: &Word,
-    group: u8,
+    group: u32,
     book: &mut SeenLog,
     tally: &mut Tally,
     seat: u64,
 ) -> u64
     requires head { head.now ≡ word_at book.old.book group }
-    requires group { group < 64 }
+    requires group { group < groups_in book.old.log }
     requires fits { Fits tally.old book.old.names seat }
     ensures book { (book.new.book ≡ book.old.book) × (book.new.names ≡ book.old.names) }
     ensures later { IsPrefix book.old.log book.new.log }
-    ensures top { result ≡ top group book.new.log }
+    ensures top { result ≡ top (groups_in book.new.log) group book.new.log }
     ensures same { Same tally.old tally.new (count seat book.new.log) }
 {
     let mut deal = tally.bid::<u64, Look>(&seat);
@@ -158,7 +158,8 @@ pub(crate) fn node_before(link: &Word, named: &SeenLog, node: u64, book: &mut Se
     ensures later { IsPrefix book.old.log book.new.log }
     ensures before { (before after : List Noted) (store : Store) (key : ℕ)
         → book.old.log ≡ before ++ Placed node store key ∷ after
-        → result ≡ top (group_of store.question) before }
+        → result ≡ top (groups_in book.old.log)
+        (group_in (groups_in book.old.log) store.question) before }
     ensures store { (before after : List Noted) (store placed : Store) (key : ℕ)
         → book.old.log ≡ before ++ Placed node placed key ∷ after
         → IsNamed named.now.book named.now.log node store link.now → placed ≡ store }
@@ -177,7 +178,7 @@ pub(crate) fn claim_node(
     place: u64,
     new_store: &NewStore<'_>,
 ) -> Pen
-    requires idle { idle.now ≡ word_at book.old.book 64 }
+    requires idle { idle.now ≡ word_at book.old.book (groups_in book.old.log) }
     requires fits { Fits tally.old book.old.names new_store.now.seat }
     requires counted { count new_store.now.seat book.old.log ≡ tally.old.count }
     requires below { NamesBelow new_store.now.seat place book.old.log }
@@ -185,7 +186,8 @@ pub(crate) fn claim_node(
     requires seat { new_store.now.seat < seats_in book.old.log }
     ensures book { (book.new.book ≡ book.old.book) × (book.new.names ≡ book.old.names)
         × (result.book ≡ book.old.book) }
-    ensures pen { (64 < result.nib.key) × (result.nib ≡ nib may_make result.nib.key 0) }
+    ensures pen { (groups_in book.old.log < result.nib.key)
+        × (result.nib ≡ nib may_make result.nib.key 0) }
     ensures tally { Stays tally.old tally.new × (tally.new.count ≡ tally.old.count + 1) }
     ensures adds { Adds (Named new_store.now.node (store_of new_store.now) result.nib.key)
         tally.old book.old.log book.new.log }
@@ -208,16 +210,18 @@ pub(crate) fn place(
     new_store: &NewStore<'_>,
     link: &Word,
 ) -> bool
-    requires head { head.now ≡ word_at book.old.book (group_of new_store.now.question.now) }
+    requires head { head.now ≡ word_at book.old.book
+        (group_in (groups_in book.old.log) new_store.now.question.now) }
     requires fits { Fits tally.old book.old.names new_store.now.seat }
     requires pen { (pen.old.book ≡ book.old.book) × (pen.old.nib.right ≡ may_write)
         × (pen.old.nib.key ≡ link.now.key)
         × (pen.old.nib.value ≡ old) }
-    requires room { HadRoom book.old.log old new_store.now.question.now }
+    requires room { HadRoom (groups_in book.old.log) book.old.log old
+        new_store.now.question.now }
     requires sound { IsSound (store_of new_store.now) }
     requires named { In (Named new_store.now.node (store_of new_store.now) link.now.key)
         book.old.log
-        × (64 < link.now.key) }
+        × (groups_in book.old.log < link.now.key) }
     ensures book { (book.new.book ≡ book.old.book) × (book.new.names ≡ book.old.names)
         × (pen.new.book ≡ pen.old.book) }
     ensures later { IsPrefix book.old.log book.new.log }
@@ -226,7 +230,8 @@ pub(crate) fn place(
         (Adds (Placed new_store.now.node (store_of new_store.now) link.now.key)
         tally.old book.old.log book.new.log
         × (tally.new.count ≡ tally.old.count + 1))
-        ((old ≢ top (group_of new_store.now.question.now) book.new.log)
+        ((old ≢ top (groups_in book.new.log)
+        (group_in (groups_in book.new.log) new_store.now.question.now) book.new.log)
         × (pen.new.nib ≡ pen.old.nib)
         × Same tally.old tally.new (count new_store.now.seat book.new.log)) }
 {

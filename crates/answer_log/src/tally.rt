@@ -68,13 +68,14 @@ pub(crate) type Deal = Offer<Event, Counted, Law, Back>;
 
 impl Tallies {
     /// The counts of 64 seats, and what the rule keeps of them when a log opens for so many of
-    /// them.
-    pub(crate) fn open(seats: u64) -> (Start<Event, Counted, Law>, Tallies)
+    /// them, with so many groups.
+    pub(crate) fn open(seats: u64, groups: u32) -> (Start<Event, Counted, Law>, Tallies)
         ensures start { (result.0.names ≡ result.1.name ∷ [])
-            × (result.0.shown ≡ Opened seats ∷ []) }
+            × (result.0.shown ≡ Opened seats groups ∷ []) }
         ensures all { (result.1.next ≡ 0) × (result.1.left ≡ 64) }
     {
         let _ = seats;
+        let _ = groups;
         (
             Start {
                 marker: PhantomData,

@@ -6,6 +6,6 @@ abbrev pub invariant-groups : goal.invariant-groups
 invariant-groups l = record {
   book : l.pens.book ≡ l.fn.pens.book;
   next : l.pens.next ≡ l._group;
-  left : l.pens.left + l._group ≡ 65;
+  left : l.pens.left + l._group ≡ l.fn.groups + 1;
   heads : l.heads.items ≡ heads_of l.fn.pens.book l._group;
 }

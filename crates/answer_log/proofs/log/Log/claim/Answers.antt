@@ -20,7 +20,7 @@ returns-clause-handle c =
     let node : ℕ = c.node_at-node.result in
     let store : Store = store_by h.number c.args.question.now (arc_value c.args.answer.now) c.args.moment in
     handle_adds h _
-    (Named node store t.result.nib.key) c.requires.handle t.ensures.adds refl refl
+    (Named node store t.result.nib.key) c.requires.handle t.ensures.adds refl refl refl
     (let p = c.requires.place.0 in omega arith) t.ensures.book.1 t.ensures.tally.0 t.ensures.tally.1 refl
     (named_low h.number c.args.place node store t.result.nib.key c.node_at-node.ensures)
 

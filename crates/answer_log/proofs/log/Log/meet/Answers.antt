@@ -29,11 +29,12 @@ returns-clause-handle c =
     hand_on h record {
       number = h.number;
       seats = h.seats;
+      groups = h.groups;
       node_count = h.node_count;
       tally = t.new.tally;
       book = c.again.result;
       spent = h.spent;
-    } pre.0 c.requires.handle refl refl refl (ap (λ b. b.names) c.again.ensures ∙ c.requires.told.1)
+    } pre.0 c.requires.handle refl refl refl refl (ap (λ b. b.names) c.again.ensures ∙ c.requires.told.1)
     (t.ensures.same.0, t.ensures.same.1, ap (λ b. count h.number b.log) c.again.ensures ∙ many)
     (pre.1 ∙ sym (ap (λ b. b.log) c.again.ensures))
 
