@@ -1,5 +1,5 @@
 -- What is carried answers as the histories did.
-use Rattle.std.proofs.Common.{◌≡◌, ◌≢◌, ◌↔◌, ◌+◌, ◌<◌, ◌≤◌, ◌%◌, ℕ, Bool, true, false, IsTrue, List, [], ◌∷◌, Option, Some, None, refl, ap}
+use Rattle.std.proofs.Common.{◌≡◌, ◌≢◌, ◌↔◌, ◌+◌, ◌<◌, ◌≤◌, ℕ, Bool, true, false, IsTrue, List, [], ◌∷◌, Option, Some, None, refl, ap}
 use Rattle.std.proofs.Common.{sym, ◌∙◌, arith, nat_lt, option_and_then}
 use Rattle.std.proofs.lemmas.Bool.Decides.{nat_tests}
 use Rattle.std.proofs.lemmas.List.Elements.{All-cons, All-nil}
@@ -7,19 +7,14 @@ use Rattle.std.specs.List.{All, last_or}
 use Rattle.dns_answers.specs.Values.{AnswerValue}
 use Rattle.dns_message.specs.Questions.{same_question}
 use Rattle.dns_message.specs.declared.question.Question.{Question}
-use Rattle.answer_log.specs.Groups.{group_of, hash_of, hashed_of}
+use Rattle.answer_log.specs.Groups.{group_in}
 use Rattle.answer_log.specs.Histories.{cached, in_group, living, stores_of}
 use Rattle.answer_log.specs.declared.store.Store.{Store}
 use Rattle.answer_cache.specs.Carried.{IsCarriedOf, carried_stores, has_question, living_of}
 use Rattle.answer_cache.specs.Seats.{Offer}
+use Rattle.answer_log.proofs.Chains.{group-low}
 use Rattle.answer_cache.proofs.Carrying.{all-in-group, all-turn, carried-all, none-filter, only}
 use Rattle.answer_cache.proofs.Lookups.{grouped}
-
-group-low : (question : Question) → group_of question < 64
-group-low question = low (hash_of (hashed_of question))
-  where
-    low : (n : ℕ) → n % 64 < 64
-    low n = omega arith
 
 later-test : (a b now later : ℕ) → now ≤ later → nat_lt now (a + b) ≡ false → nat_lt later (a + b) ≡ false
 later-test a b now later le not = grind (arith, nat_tests)
@@ -93,34 +88,36 @@ module _ (question : Question) where
     answers [] = refl
     answers (store ∷ stores) = answers-by store stores _ refl _ refl _ refl (answers stores)
 
-    other : (group : ℕ) (stores : List Store) → group ≢ group_of question
-        → stores_of question (carried_stores (living_of now (in_group group stores))) ≡ []
-    other group stores ne =
-        none-filter (λ store. same_question store.question question) (carried_stores (living_of now (in_group group stores)))
-        (all-turn (λ store. group_of store.question ≡ group) P turn (carried_stores (living_of now (in_group group stores)))
-        (carried-all (λ store. group_of store.question ≡ group) now (in_group group stores) (all-in-group group stores)))
+    other : (groups group : ℕ) (stores : List Store) → group ≢ group_in groups question
+        → stores_of question (carried_stores (living_of now (in_group groups group stores))) ≡ []
+    other groups group stores ne =
+        none-filter (λ store. same_question store.question question) (carried_stores (living_of now (in_group groups group stores)))
+        (all-turn (λ store. group_in groups store.question ≡ group) P turn (carried_stores (living_of now (in_group groups group stores)))
+        (carried-all (λ store. group_in groups store.question ≡ group) now (in_group groups group stores) (all-in-group groups group stores)))
       where
-        turn : (store : Store) → group_of store.question ≡ group → P store
+        turn : (store : Store) → group_in groups store.question ≡ group → P store
         turn store is = by-test (same_question store.question question) refl
           where
             by-test : (asked : Bool) → same_question store.question question ≡ asked → asked ≡ false
             by-test true asked =
                 let q : store.question ≡ question = (same store.question question).0 asked in
-                absurd (ne (sym is ∙ ap group_of q))
+                absurd (ne (sym is ∙ ap (group_in groups) q))
             by-test false asked = refl
 
-    pub carried-answers : (before after : List Store) (carried : List Offer) (it : IsCarriedOf 64 before after now carried)
-        → cached (carried_stores carried) question later ≡ cached (it.history (group_of question)) question later
-    carried-answers before after carried it =
-        let part : ℕ → List Offer = λ group. living_of now (in_group group (it.history group)) in
-        let at : ℕ = group_of question in
-        let low = group-low question in
+    pub carried-answers : (groups : ℕ) → 0 < groups → (before after : List Store) (carried : List Offer)
+        (it : IsCarriedOf groups groups before after now carried)
+        → cached (carried_stores carried) question later ≡ cached (it.history (group_in groups question)) question later
+    carried-answers groups some before after carried it =
+        let part : ℕ → List Offer = λ group. living_of now (in_group groups group (it.history group)) in
+        let at : ℕ = group_in groups question in
+        let low = group-low groups some question in
         let last : Option Store → Option AnswerValue = option_and_then (living later) in
         ap (λ offers. last (last_or None (stores_of question (carried_stores offers)))) it.all
         ∙ (ap (λ stores. last (last_or None stores))
-        (only (λ store. same_question store.question question) part at (λ k ne. other k (it.history k) ne) 0 64 (omega arith) (omega arith))
-        ∙ (answers (in_group at (it.history at))
-        ∙ ap (λ stores. last (last_or None stores)) (grouped same question (it.history at))))
+        (only (λ store. same_question store.question question) part at (λ k ne. other groups k (it.history k) ne) 0 groups
+        (omega arith) (omega arith))
+        ∙ (answers (in_group groups at (it.history at))
+        ∙ ap (λ stores. last (last_or None stores)) (grouped groups same question (it.history at))))
 
   -- what isn't found at a moment isn't found later
   pub no-more : (stores : List Store) (now later : ℕ) → now ≤ later → cached stores question now ≡ None

@@ -7,7 +7,7 @@ use Rattle.std.proofs.lemmas.List.{append-nil, length-append, length-map, map-ap
 use Rattle.std.proofs.lemmas.List.Elements.{All-append, All-cons, All-filter, All-head, All-map, All-nil, All-tail, filter-append}
 use Rattle.std.specs.List.{All, filter, flat_map, range_with_len}
 use mathlib.Core.List.{IsPrefix}
-use Rattle.answer_log.specs.Groups.{group_limit, group_of}
+use Rattle.answer_log.specs.Groups.{group_in, group_limit}
 use Rattle.answer_log.specs.Histories.{IsHistory, IsSound, in_group}
 use Rattle.answer_log.specs.declared.store.Store.{Store}
 use Rattle.answer_cache.specs.Carried.{IsCarriedOf, carried_stores, has_question, last_stores, lives_at, living_of, unseated}
@@ -105,14 +105,17 @@ module _ (p : Store → Bool) (f : ℕ → List Offer) where
           ∙ more (omega (arith, other)))
 
 -- the stores of a group are in it
-pub all-in-group : (group : ℕ) (stores : List Store) → All (λ store. group_of store.question ≡ group) (in_group group stores)
-all-in-group group [] = All-nil (λ store. group_of store.question ≡ group)
-all-in-group group (store ∷ stores) = by-test (group_of store.question == group) refl (all-in-group group stores)
+pub all-in-group : (groups group : ℕ) (stores : List Store)
+    → All (λ store. group_in groups store.question ≡ group) (in_group groups group stores)
+all-in-group groups group [] = All-nil (λ store. group_in groups store.question ≡ group)
+all-in-group groups group (store ∷ stores) = by-test (group_in groups store.question == group) refl (all-in-group groups group stores)
   where
-    by-test : (is : Bool) → (group_of store.question == group) ≡ is → All (λ it. group_of it.question ≡ group) (in_group group stores)
-        → All (λ it. group_of it.question ≡ group) (in_group group (store ∷ stores))
+    by-test : (is : Bool) → (group_in groups store.question == group) ≡ is
+        → All (λ it. group_in groups it.question ≡ group) (in_group groups group stores)
+        → All (λ it. group_in groups it.question ≡ group) (in_group groups group (store ∷ stores))
     by-test true is rest = rw is
-        (All-cons (λ it. group_of it.question ≡ group) store (in_group group stores) (eqb-true (group_of store.question) group is) rest)
+        (All-cons (λ it. group_in groups it.question ≡ group) store (in_group groups group stores)
+        (eqb-true (group_in groups store.question) group is) rest)
     by-test false is rest = rw is rest
 
 -- each one passes where what it needs is there
@@ -122,48 +125,50 @@ all-turn P Q turn (x ∷ xs) all =
     All-cons Q x xs (turn x (All-head P x xs all)) (all-turn P Q turn xs (All-tail P x xs all))
 
 -- of what is carried of a group none is in another one
-other-group : (now group other : ℕ) (stores : List Store) → group ≢ other
-    → in_group other (carried_stores (living_of now (in_group group stores))) ≡ []
-other-group now group other stores ne =
-    none-filter (λ store. group_of store.question == other) (carried_stores (living_of now (in_group group stores)))
-    (all-turn (λ store. group_of store.question ≡ group) (λ store. (group_of store.question == other) ≡ false)
-    (λ store is. ne_eqb (group_of store.question) other (λ e. ne (sym is ∙ e)))
-    (carried_stores (living_of now (in_group group stores)))
-    (carried-all (λ store. group_of store.question ≡ group) now (in_group group stores) (all-in-group group stores)))
+other-group : (groups now group other : ℕ) (stores : List Store) → group ≢ other
+    → in_group groups other (carried_stores (living_of now (in_group groups group stores))) ≡ []
+other-group groups now group other stores ne =
+    none-filter (λ store. group_in groups store.question == other) (carried_stores (living_of now (in_group groups group stores)))
+    (all-turn (λ store. group_in groups store.question ≡ group) (λ store. (group_in groups store.question == other) ≡ false)
+    (λ store is. ne_eqb (group_in groups store.question) other (λ e. ne (sym is ∙ e)))
+    (carried_stores (living_of now (in_group groups group stores)))
+    (carried-all (λ store. group_in groups store.question ≡ group) now (in_group groups group stores) (all-in-group groups group stores)))
 
 all-front : {X : Type 0} (P : X → Type 0) (xs ys : List X) → All P (xs ++ ys) → All P xs
 all-front P [] ys all = All-nil P
 all-front P (x ∷ xs) ys all =
     All-cons P x xs (All-head P x (xs ++ ys) all) (all-front P xs ys (All-tail P x (xs ++ ys) all))
 
-few-front : (group : ℕ) (old new : List Store) → IsPrefix old new → length (in_group group old) ≤ length (in_group group new)
-few-front group old new p =
-    let split = ap (in_group group) (sym p.1) ∙ filter-append (λ it. group_of it.question == group) old p.0 in
-    let sizes = ap length split ∙ length-append (in_group group old) (in_group group p.0) in
+few-front : (groups group : ℕ) (old new : List Store) → IsPrefix old new
+    → length (in_group groups group old) ≤ length (in_group groups group new)
+few-front groups group old new p =
+    let split = ap (in_group groups group) (sym p.1) ∙ filter-append (λ it. group_in groups it.question == group) old p.0 in
+    let sizes = ap length split ∙ length-append (in_group groups group old) (in_group groups group p.0) in
     omega arith
 
 -- what is carried of some groups is a history
-pub carried-history : (groups : ℕ) (before after : List Store) (now : ℕ) (carried : List Offer)
-    → IsCarriedOf groups before after now carried → IsHistory after → IsHistory (carried_stores carried)
-carried-history groups before after now carried it kept =
-    let H : List Offer → Type 0 = λ offers. IsHistory (carried_stores offers) in
+pub carried-history : (groups first : ℕ) (before after : List Store) (now : ℕ) (carried : List Offer)
+    → IsCarriedOf groups first before after now carried → IsHistory groups after
+    → IsHistory groups (carried_stores carried)
+carried-history groups first before after now carried it kept =
+    let H : List Offer → Type 0 = λ offers. IsHistory groups (carried_stores offers) in
     subst H (sym it.all) (record {
-      sound = sound-from 0 groups (omega arith);
-      few = λ group. few-by group (nat_lt group groups) refl;
+      sound = sound-from 0 first (omega arith);
+      few = λ group. few-by group (nat_lt group first) refl;
     })
   where
     part : ℕ → List Offer
-    part group = living_of now (in_group group (it.history group))
+    part group = living_of now (in_group groups group (it.history group))
 
-    sound-part : (group : ℕ) → group < groups → All IsSound (carried_stores (part group))
+    sound-part : (group : ℕ) → group < first → All IsSound (carried_stores (part group))
     sound-part group low =
         let S : List Store → Type 0 = λ stores. All IsSound stores in
         let front : All IsSound (it.history group) =
         all-front IsSound (it.history group) (it.till group low).0 (subst S (sym (it.till group low).1) kept.sound) in
-        carried-all IsSound now (in_group group (it.history group))
-        (All-filter (λ store. group_of store.question == group) IsSound (it.history group) front)
+        carried-all IsSound now (in_group groups group (it.history group))
+        (All-filter (λ store. group_in groups store.question == group) IsSound (it.history group) front)
 
-    sound-from : (from size : ℕ) → from + size ≤ groups → All IsSound (carried_stores (flat_map part (range_with_len from size)))
+    sound-from : (from size : ℕ) → from + size ≤ first → All IsSound (carried_stores (flat_map part (range_with_len from size)))
     sound-from from zero fits = All-nil IsSound
     sound-from from (suc size) fits =
         let S : List Store → Type 0 = λ stores. All IsSound stores in
@@ -171,20 +176,20 @@ carried-history groups before after now carried it kept =
         (All-append IsSound (carried_stores (part from)) (carried_stores (flat_map part (range_with_len (from + 1) size)))
         (sound-part from (omega arith)) (sound-from (from + 1) size (omega arith)))
 
-    few-by : (group : ℕ) (is : Bool) → nat_lt group groups ≡ is
-        → length (in_group group (carried_stores (flat_map part (range_with_len 0 groups)))) ≤ group_limit
+    few-by : (group : ℕ) (is : Bool) → nat_lt group first ≡ is
+        → length (in_group groups group (carried_stores (flat_map part (range_with_len 0 first)))) ≤ group_limit
     few-by group true is =
-        let low : group < groups = grind (arith, nat_tests) in
-        let its = only (λ store. group_of store.question == group) part group
-        (λ k ne. other-group now k group (it.history k) ne) 0 groups (omega arith) (omega arith) in
-        let one = few-filter (λ store. group_of store.question == group) (carried_stores (part group)) in
-        let two = few-carried now (in_group group (it.history group)) in
-        let three = few-front group (it.history group) after (it.till group low) in
+        let low : group < first = grind (arith, nat_tests) in
+        let its = only (λ store. group_in groups store.question == group) part group
+        (λ k ne. other-group groups now k group (it.history k) ne) 0 first (omega arith) (omega arith) in
+        let one = few-filter (λ store. group_in groups store.question == group) (carried_stores (part group)) in
+        let two = few-carried now (in_group groups group (it.history group)) in
+        let three = few-front groups group (it.history group) after (it.till group low) in
         let four = kept.few group in
         let size = ap length its in
         omega arith
     few-by group false is =
-        let high : groups ≤ group = grind (arith, nat_tests) in
-        let none = none-of (λ store. group_of store.question == group) part 0 groups
-        (λ k low less. other-group now k group (it.history k) (λ e. absurd (omega (arith, e)))) in
+        let high : first ≤ group = grind (arith, nat_tests) in
+        let none = none-of (λ store. group_in groups store.question == group) part 0 first
+        (λ k low less. other-group groups now k group (it.history k) (λ e. absurd (omega (arith, e)))) in
         rw none omega arith

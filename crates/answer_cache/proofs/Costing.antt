@@ -94,7 +94,7 @@ look-and_more old mid again new is one two =
     (both old again new group_limit (15 * group_limit) 0 16 (same old mid again group_limit 0 is one) two)
 
 pub same-itself : (handle : Handle) → IsHandle handle → IsSame handle handle
-same-itself handle is = record { handle = is; number = refl; seats = refl; node_count = refl; book = refl }
+same-itself handle is = record { handle = is; number = refl; seats = refl; groups = refl; node_count = refl; book = refl }
 
 -- the hand is the same after both
 pub same-handle : (old mid new : Handle) → IsSame old mid → IsSame mid new → IsSame old new
@@ -102,6 +102,7 @@ same-handle old mid new one two = record {
   handle = two.handle;
   number = two.number ∙ one.number;
   seats = two.seats ∙ one.seats;
+  groups = two.groups ∙ one.groups;
   node_count = two.node_count ∙ one.node_count;
   book = two.book ∙ one.book;
 }

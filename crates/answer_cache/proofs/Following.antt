@@ -7,7 +7,7 @@ use Rattle.std.proofs.lemmas.List.Elements.{All-get_or, filter-append}
 use Rattle.std.proofs.Math.ListN.{drop_of_length-le}
 use Rattle.dns_message.specs.Questions.{same_question}
 use Rattle.dns_message.specs.declared.question.Question.{Question}
-use Rattle.answer_log.specs.Groups.{group_limit, group_of}
+use Rattle.answer_log.specs.Groups.{group_in, group_limit}
 use Rattle.answer_log.specs.Histories.{IsHistory, IsSound, in_group}
 use Rattle.answer_log.specs.declared.store.Store.{Store}
 use Rattle.answer_cache.specs.Carried.{carried_stores, has_question, lives_at, living_of, offer_in, unseated}
@@ -116,15 +116,16 @@ module _ (now : ℕ) where
   takes-last store later last lives = rw (last, lives) refl
 
   -- no group has more than before
-  pub few-living : (group : ℕ) (stores : List Store) → length (in_group group (next stores)) ≤ length (in_group group stores)
-  few-living group [] = omega arith
-  few-living group (store ∷ later) = by-test _ refl _ refl _ refl (few-living group later)
+  pub few-living : (groups group : ℕ) (stores : List Store)
+      → length (in_group groups group (next stores)) ≤ length (in_group groups group stores)
+  few-living groups group [] = omega arith
+  few-living groups group (store ∷ later) = by-test _ refl _ refl _ refl (few-living groups group later)
     where
       by-test : (again : Bool) → has_question store.question later ≡ again
           → (lives : Bool) → lives_at now (unseated store) ≡ lives
-          → (grouped : Bool) → (group_of store.question == group) ≡ grouped
-          → length (in_group group (next later)) ≤ length (in_group group later)
-          → length (in_group group (next (store ∷ later))) ≤ length (in_group group (store ∷ later))
+          → (grouped : Bool) → (group_in groups store.question == group) ≡ grouped
+          → length (in_group groups group (next later)) ≤ length (in_group groups group later)
+          → length (in_group groups group (next (store ∷ later))) ≤ length (in_group groups group (store ∷ later))
       by-test true a lives l true g more = rw (a, g) (omega (arith, more))
       by-test true a lives l false g more = rw (a, g) more
       by-test false a true l true g more = rw (a, l, g) (omega (arith, more))
@@ -134,21 +135,23 @@ module _ (now : ℕ) where
 
   module _ (stores done : List Store) (store : Store) (rest : List Store) (is : next stores ≡ done ++ store ∷ rest) where
     -- there is room for each of them
-    pub room-for : IsHistory stores → ((group_limit ≤ length (in_group (group_of store.question) done)) → ⊥)
-    room-for history full =
-        let few = few-living (group_of store.question) stores in
-        let most = history.few (group_of store.question) in
-        let split = ap (in_group (group_of store.question)) is
-        ∙ filter-append (λ it. group_of it.question == group_of store.question) done (store ∷ rest) in
+    pub room-for : (groups : ℕ) → IsHistory groups stores
+        → ((group_limit ≤ length (in_group groups (group_in groups store.question) done)) → ⊥)
+    room-for groups history full =
+        let few = few-living groups (group_in groups store.question) stores in
+        let most = history.few (group_in groups store.question) in
+        let split = ap (in_group groups (group_in groups store.question)) is
+        ∙ filter-append (λ it. group_in groups it.question == group_in groups store.question) done (store ∷ rest) in
         let sizes = ap length split
-        ∙ length-append (in_group (group_of store.question) done) (in_group (group_of store.question) (store ∷ rest)) in
-        let one = here (group_of store.question) refl in
+        ∙ length-append (in_group groups (group_in groups store.question) done)
+        (in_group groups (group_in groups store.question) (store ∷ rest)) in
+        let one = here (group_in groups store.question) refl in
         absurd (omega (arith, few, most, sizes, one, full))
       where
-        here : (group : ℕ) → group_of store.question ≡ group → 1 ≤ length (in_group group (store ∷ rest))
+        here : (group : ℕ) → group_in groups store.question ≡ group → 1 ≤ length (in_group groups group (store ∷ rest))
         here group same = rw (eq-true group same) (omega arith)
           where
-            eq-true : (group : ℕ) → group_of store.question ≡ group → (group_of store.question == group) ≡ true
+            eq-true : (group : ℕ) → group_in groups store.question ≡ group → (group_in groups store.question == group) ≡ true
             eq-true group same = rw same (eq-eqb group group refl)
 
     pub some-live : living_of now stores ≢ []
@@ -177,8 +180,8 @@ module _ (entries : List Entry) (stores : List Store) (view : stores_in entries 
   rest-there =
       drop_more stores place (store_in entry) within ∙ ap (λ s. s ∷ drop (place + 1) stores) (stored-there (store_in entry))
 
-  pub sound-again : IsHistory stores → (again : Entry) → offer_in again ≡ offer_in entry → IsSound (store_in again)
-  sound-again history again is =
+  pub sound-again : (groups : ℕ) → IsHistory groups stores → (again : Entry) → offer_in again ≡ offer_in entry → IsSound (store_in again)
+  sound-again groups history again is =
       let S : Offer → Type 0 = λ offer. IsSound (own_store offer) in
       subst S (sym is) (subst IsSound (stored-there (store_in entry))
       (All-get_or IsSound stores place (store_in entry) within history.sound))
@@ -199,7 +202,8 @@ module _ (entries : List Entry) (stores : List Store) (view : stores_in entries 
       pub takes-it : next now stores ≡ done ++ store_in entry ∷ next now (drop (place + 1) stores)
       takes-it = begun ∙ ap (λ l. done ++ l) (takes-last now (store_in entry) (drop (place + 1) stores) last lives)
 
-      pub room-for-it : IsHistory stores → ((group_limit ≤ length (in_group (group_of entry.question) done)) → ⊥)
+      pub room-for-it : (groups : ℕ) → IsHistory groups stores
+          → ((group_limit ≤ length (in_group groups (group_in groups entry.question) done)) → ⊥)
       room-for-it = room-for now stores done (store_in entry) (next now (drop (place + 1) stores)) takes-it
 
       pub some-live-then : living_of now stores ≢ []

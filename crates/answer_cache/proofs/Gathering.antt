@@ -1,6 +1,6 @@
 -- A walk that gathers the last stores of their questions, and groups that are carried one after the other.
 use Rattle.std.proofs.Common.{◌≡◌, ◌≢◌, ◌↔◌, ◌+◌, ◌<◌, ◌≤◌, ◌==◌, ◌||◌, ℕ, zero, suc, Bool, true, false, IsTrue, List, [], ◌∷◌, ◌++◌, length, map, refl, ap}
-use Rattle.std.proofs.Common.{sym, ◌∙◌, arith, reverse, append_assoc, Ok, Err, OnErr, OnOk}
+use Rattle.std.proofs.Common.{sym, subst, ◌∙◌, arith, reverse, append_assoc, Ok, Err, OnErr, OnOk}
 use Rattle.std.specs.declared.result.Result.{Result}
 use Rattle.std.proofs.lemmas.Bool.{eqb-true, eqb-false, eq-eqb, ne_eqb}
 use Rattle.std.proofs.lemmas.Grind.{flat_map-append}
@@ -12,8 +12,9 @@ use Rattle.dns_message.specs.Questions.{same_question}
 use Rattle.dns_message.specs.declared.question.Question.{Question}
 use Rattle.logbook.specs.Pages.{Book}
 use Rattle.answer_log.specs.Handles.{SeesMore}
-use Rattle.answer_log.specs.Histories.{in_group}
-use Rattle.answer_log.specs.Logs.{history}
+use Rattle.answer_log.specs.Groups.{group_limit}
+use Rattle.answer_log.specs.Histories.{IsHistory, in_group}
+use Rattle.answer_log.specs.Logs.{groups_in, history}
 use Rattle.answer_log.specs.declared.event.Event.{Event}
 use Rattle.answer_log.specs.declared.handle.Handle.{Handle}
 use Rattle.answer_cache.specs.Nodes.{Holds}
@@ -164,16 +165,25 @@ turned-lasts f nodes turned offers is said =
     ap (map f) is ∙ (map-turned f nodes ∙ (ap reverse said ∙ reverse-reverse offers))
 
 -- where something was gathered there are stores
-pub from-group : (group : ℕ) (stores : List Store) → in_group group stores ≢ [] → stores ≢ []
-from-group group stores some none = some (ap (in_group group) none)
+pub from-group : (groups group : ℕ) (stores : List Store) → in_group groups group stores ≢ [] → stores ≢ []
+from-group groups group stores some none = some (ap (in_group groups group) none)
 
-pub from-nodes : {X : Type 0} (f : X → Offer) (turned : List X) (group : ℕ) (stores : List Store)
-    → map f turned ≡ map unseated (last_stores (in_group group stores)) → turned ≢ [] → stores ≢ []
-from-nodes f turned group stores said some none =
-    let empty : map f turned ≡ [] = said ∙ ap (λ l. map unseated (last_stores (in_group group l))) none in
+pub from-nodes : {X : Type 0} (f : X → Offer) (turned : List X) (groups group : ℕ) (stores : List Store)
+    → map f turned ≡ map unseated (last_stores (in_group groups group stores)) → turned ≢ [] → stores ≢ []
+from-nodes f turned groups group stores said some none =
+    let empty : map f turned ≡ [] = said ∙ ap (λ l. map unseated (last_stores (in_group groups group l))) none in
     let size = ap length empty in
     let same = length-map turned f in
     some (nil_from_length turned (omega arith))
+
+-- no group of a log that was seen has too many stores
+pub few-in : (groups group : ℕ) (log same : List Event) → IsHistory (groups_in log) (history log) → log ≡ same → groups_in same ≡ groups
+    → length (in_group groups group (history same)) ≤ group_limit
+few-in groups group log same kept is on =
+    let F : ℕ → List Event → Type 0 = λ so events. length (in_group so group (history events)) ≤ group_limit in
+    let L : List Event → Type 0 = λ events. F (groups_in events) events in
+    let G : ℕ → Type 0 = λ so. F so same in
+    subst G on (subst L is (kept.few group))
 
 -- what holds of a hand goes on
 pub holds-on : (book : Book) (old mid new : Handle) → Holds book old mid → Holds book mid new → Holds book old new
@@ -181,6 +191,7 @@ holds-on book old mid new one two = record {
   handle = two.handle;
   number = two.number ∙ one.number;
   seats = two.seats ∙ one.seats;
+  groups = two.groups ∙ one.groups;
   same = two.same;
   names = two.names ∙ one.names;
 }
@@ -215,8 +226,8 @@ range-next from (suc size) =
 on-from : (old mid new : List Store) → IsPrefix old mid → IsPrefix mid new → IsPrefix old new
 on-from old mid new p q = (p.0 ++ q.0, sym (append_assoc old p.0 q.0) ∙ (ap (λ l. l ++ q.0) p.1 ∙ q.1))
 
-pub carried-none : (before after : List Store) (now : ℕ) → IsCarriedOf 0 before after now []
-carried-none before after now = record {
+pub carried-none : (total : ℕ) (before after : List Store) (now : ℕ) → IsCarriedOf total 0 before after now []
+carried-none total before after now = record {
   history = λ group. before;
   from = λ group low. absurd (omega arith);
   next = λ group low. absurd (omega arith);
@@ -225,10 +236,10 @@ carried-none before after now = record {
 }
 
 -- one group more
-pub carried-more : (groups : ℕ) (before mid after : List Store) (now : ℕ) (old : List Offer) → IsPrefix before mid → IsPrefix mid after
-    → IsCarriedOf groups before mid now old
-    → IsCarriedOf (groups + 1) before after now (old ++ living_of now (in_group groups after))
-carried-more groups before mid after now old first later it = record {
+pub carried-more : (total groups : ℕ) (before mid after : List Store) (now : ℕ) (old : List Offer) → IsPrefix before mid → IsPrefix mid after
+    → IsCarriedOf total groups before mid now old
+    → IsCarriedOf total (groups + 1) before after now (old ++ living_of now (in_group total groups after))
+carried-more total groups before mid after now old first later it = record {
   history = chosen;
   from = λ group low. from-by group low (group == groups) refl;
   next = λ group low. next-by group low (group == groups) refl ((group + 1) == groups) refl;
@@ -240,10 +251,10 @@ carried-more groups before mid after now old first later it = record {
     chosen group = choose (group == groups) after (it.history group)
 
     part : ℕ → List Offer
-    part group = living_of now (in_group group (chosen group))
+    part group = living_of now (in_group total group (chosen group))
 
     old-part : ℕ → List Offer
-    old-part group = living_of now (in_group group (it.history group))
+    old-part group = living_of now (in_group total group (it.history group))
 
     from-by : (group : ℕ) → group < groups + 1 → (is : Bool) → (group == groups) ≡ is → IsPrefix before (choose is after (it.history group))
     from-by group low true is = on-from before mid after first later
@@ -264,18 +275,18 @@ carried-more groups before mid after now old first later it = record {
     same-part : (k : ℕ) → k < 0 + groups → part k ≡ old-part k
     same-part k low =
         let other : (k == groups) ≡ false = ne_eqb k groups (λ e. absurd (omega (arith, e))) in
-        ap (λ b. living_of now (in_group k (choose b after (it.history k)))) other
+        ap (λ b. living_of now (in_group total k (choose b after (it.history k)))) other
 
-    last-part : part (0 + groups) ≡ living_of now (in_group groups after)
+    last-part : part (0 + groups) ≡ living_of now (in_group total groups after)
     last-part =
         let at : 0 + groups ≡ groups = omega arith in
-        ap part at ∙ ap (λ b. living_of now (in_group groups (choose b after (it.history groups)))) (eq-eqb groups groups refl)
+        ap part at ∙ ap (λ b. living_of now (in_group total groups (choose b after (it.history groups)))) (eq-eqb groups groups refl)
 
-    all : old ++ living_of now (in_group groups after) ≡ flat_map part (range_with_len 0 (groups + 1))
+    all : old ++ living_of now (in_group total groups after) ≡ flat_map part (range_with_len 0 (groups + 1))
     all =
         let size : groups + 1 ≡ suc groups = omega arith in
         sym (ap (λ n. flat_map part (range_with_len 0 n)) size
         ∙ (ap (flat_map part) (range-next 0 groups)
         ∙ (flat_map-append part (range_with_len 0 groups) ((0 + groups) ∷ [])
         ∙ (ap (λ l. flat_map part (range_with_len 0 groups) ++ l) (append-nil (part (0 + groups)) ∙ last-part)
-        ∙ ap (λ l. l ++ living_of now (in_group groups after)) (agree part old-part 0 groups same-part ∙ sym it.all)))))
+        ∙ ap (λ l. l ++ living_of now (in_group total groups after)) (agree part old-part 0 groups same-part ∙ sym it.all)))))

@@ -10,7 +10,7 @@ use Rattle.dns_message.specs.declared.question.Question.{Question}
 use Rattle.answer_log.specs.Groups.{hash_of, hashed_of}
 use Rattle.answer_log.specs.Handles.{IsLog, IsPlaced}
 use Rattle.answer_log.specs.Histories.{in_group, stores_of}
-use Rattle.answer_log.specs.Logs.{In, history}
+use Rattle.answer_log.specs.Logs.{In, groups_in, history, top}
 use Rattle.answer_log.specs.Cursors.{Ahead}
 use Rattle.answer_log.specs.declared.event.Event.{Event}
 use Rattle.answer_log.specs.declared.event.Event.TheVariants.{Placed}
@@ -87,10 +87,10 @@ top-last n [] entry = refl
 top-last n (e ∷ front) entry = top-last e.node front entry
 
 -- an index whose log has grown
-pub index-on : (book : Book) (old new : Index) → IsIndex book old → new.seen.book ≡ book → IsPrefix old.seen.log new.seen.log
-    → new.entries.items ≡ old.entries.items → IsIndex book new
-index-on book old new it same later kept =
-    let T : List IndexEntry → Type 0 = λ entries. TellsAll new.seen.log entries (in_group it.group (history it.front)) in
+pub index-on : (groups : ℕ) (book : Book) (old new : Index) → IsIndex groups book old → new.seen.book ≡ book
+    → IsPrefix old.seen.log new.seen.log → new.entries.items ≡ old.entries.items → IsIndex groups book new
+index-on groups book old new it same later kept =
+    let T : List IndexEntry → Type 0 = λ entries. TellsAll new.seen.log entries (in_group groups it.group (history it.front)) in
     let whole = front_trans it.front old.seen.log new.seen.log (it.back, sym it.split) later in record {
       same = same;
       group = it.group;
@@ -98,7 +98,7 @@ index-on book old new it same later kept =
       back = whole.0;
       split = sym whole.1;
       at = ap top_of kept ∙ it.at;
-      tells = subst T (sym kept) (tells-on old.seen.log new.seen.log old.entries.items (in_group it.group (history it.front)) later
+      tells = subst T (sym kept) (tells-on old.seen.log new.seen.log old.entries.items (in_group groups it.group (history it.front)) later
           it.tells);
     }
 
@@ -110,23 +110,27 @@ ahead-one cursor left other log it its =
     ∙ sym its.stores)
 
 -- where a walk has come to what an index tells
-pub ahead-told : (book : Book) (cursor : Cursor) (index : Index) (log : List Event) (left : List Store) → IsLog log
-    → IsPrefix cursor.seen.log log → IsPrefix index.seen.log log
-    → IsIndex book index → Ahead cursor left → cursor.next ≡ top_of index.entries.items → TellsAll index.seen.log index.entries.items left
-ahead-told book cursor index log left rule p q it ahead same =
+pub ahead-told : (groups : ℕ) (book : Book) (cursor : Cursor) (index : Index) (log : List Event) (left : List Store) → IsLog log
+    → IsPrefix cursor.seen.log log → IsPrefix index.seen.log log → groups_in log ≡ groups → groups_in cursor.seen.log ≡ groups
+    → IsIndex groups book index → Ahead cursor left → cursor.next ≡ top_of index.entries.items
+    → TellsAll index.seen.log index.entries.items left
+ahead-told groups book cursor index log left rule p q on there it ahead same =
     let T : List Store → Type 0 = λ stores. TellsAll index.seen.log index.entries.items stores in
-    let one = rule.tops it.front ahead.front it.group ahead.group
+    let O : ℕ → Type 0 = λ so. top so it.group it.front ≡ top so ahead.group ahead.front
+    → in_group so it.group (history it.front) ≡ in_group so ahead.group (history ahead.front) in
+    let one = subst O on (rule.tops it.front ahead.front it.group ahead.group
     (front_trans it.front index.seen.log log (it.back, sym it.split) q)
-    (front_trans ahead.front cursor.seen.log log (ahead.back, sym ahead.split) p)
-    (sym it.at ∙ (sym same ∙ ahead.at)) in
-    subst T (one ∙ sym ahead.stores) it.tells
+    (front_trans ahead.front cursor.seen.log log (ahead.back, sym ahead.split) p))
+    (sym it.at ∙ (sym same ∙ (ahead.at ∙ ap (λ so. top so ahead.group ahead.front) there))) in
+    subst T (one ∙ sym (ahead.stores ∙ ap (λ so. in_group so ahead.group (history ahead.front)) there)) it.tells
 
 -- a node is added to an index that tells all before it
-pub index-more : (book : Book) (old new : Index) (cursor : Cursor) (rest left : List Store) (entry : IndexEntry) (store : Store)
-    → new.seen.book ≡ book → IsPrefix old.seen.log new.seen.log → IsPrefix cursor.seen.log new.seen.log
+pub index-more : (groups : ℕ) (book : Book) (old new : Index) (cursor : Cursor) (rest left : List Store) (entry : IndexEntry) (store : Store)
+    → groups_in cursor.seen.log ≡ groups → new.seen.book ≡ book → IsPrefix old.seen.log new.seen.log
+    → IsPrefix cursor.seen.log new.seen.log
     → TellsAll old.seen.log old.entries.items rest → Tells new.seen.log entry store → left ≡ rest ++ store ∷ []
-    → Ahead cursor left → cursor.next ≡ entry.node → new.entries.items ≡ old.entries.items ++ entry ∷ [] → IsIndex book new
-index-more book old new cursor rest left entry store same later p tells here split ahead at more =
+    → Ahead cursor left → cursor.next ≡ entry.node → new.entries.items ≡ old.entries.items ++ entry ∷ [] → IsIndex groups book new
+index-more groups book old new cursor rest left entry store there same later p tells here split ahead at more =
     let T : List IndexEntry × List Store → Type 0 = λ it. TellsAll new.seen.log it.0 it.1 in
     let whole = front_trans ahead.front cursor.seen.log new.seen.log (ahead.back, sym ahead.split) p in
     let all : TellsAll new.seen.log (old.entries.items ++ entry ∷ []) (rest ++ store ∷ []) =
@@ -138,20 +142,22 @@ index-more book old new cursor rest left entry store same later p tells here spl
       front = ahead.front;
       back = whole.0;
       split = sym whole.1;
-      at = ap top_of more ∙ (top-last 0 old.entries.items entry ∙ (sym at ∙ ahead.at));
-      tells = subst T (λ i. (sym more i, (sym split ∙ ahead.stores) i)) all;
+      at = ap top_of more ∙ (top-last 0 old.entries.items entry
+          ∙ (sym at ∙ (ahead.at ∙ ap (λ so. top so ahead.group ahead.front) there)));
+      tells = subst T (λ i. (sym more i, (sym split ∙ (ahead.stores ∙ ap (λ so. in_group so ahead.group (history ahead.front)) there)) i)) all;
     }
 
 -- the same, where there may be no memory for the node
-pub index-pushed : (book : Book) (old new : Index) (cursor : Cursor) (rest left : List Store) (entry : IndexEntry) (store : Store)
+pub index-pushed : (groups : ℕ) (book : Book) (old new : Index) (cursor : Cursor) (rest left : List Store) (entry : IndexEntry) (store : Store)
     → (pushed : Bool) → new.entries.items ≡ (if pushed then old.entries.items ++ entry ∷ [] else old.entries.items)
-    → IsIndex book old → new.seen.book ≡ book → IsPrefix old.seen.log new.seen.log → IsPrefix cursor.seen.log new.seen.log
+    → IsIndex groups book old → groups_in cursor.seen.log ≡ groups → new.seen.book ≡ book
+    → IsPrefix old.seen.log new.seen.log → IsPrefix cursor.seen.log new.seen.log
     → TellsAll old.seen.log old.entries.items rest → Tells new.seen.log entry store → left ≡ rest ++ store ∷ []
-    → Ahead cursor left → cursor.next ≡ entry.node → IsIndex book new
-index-pushed book old new cursor rest left entry store true more it same later p tells here split ahead at =
-    index-more book old new cursor rest left entry store same later p tells here split ahead at more
-index-pushed book old new cursor rest left entry store false kept it same later p tells here split ahead at =
-    index-on book old new it same later kept
+    → Ahead cursor left → cursor.next ≡ entry.node → IsIndex groups book new
+index-pushed groups book old new cursor rest left entry store true more it there same later p tells here split ahead at =
+    index-more groups book old new cursor rest left entry store there same later p tells here split ahead at more
+index-pushed groups book old new cursor rest left entry store false kept it there same later p tells here split ahead at =
+    index-on groups book old new it same later kept
 
 -- one store less is ahead
 pub shorter : (left rest : List Store) (store : Store) (n m : ℕ) → left ≡ rest ++ store ∷ [] → length left ≤ n → n ≡ m + 1 → length rest ≤ m

@@ -1,4 +1,5 @@
 mod Searching
+mod Powers
 mod Adding
 mod Following
 pub mod Costing

@@ -7,7 +7,7 @@ use Rattle.std.proofs.lemmas.List.{length-append, append-nil, nil_from_length}
 use Rattle.std.proofs.lemmas.List.Elements.{filter-append}
 use Rattle.dns_message.specs.Questions.{same_question}
 use Rattle.dns_message.specs.declared.question.Question.{Question}
-use Rattle.answer_log.specs.Groups.{group_of}
+use Rattle.answer_log.specs.Groups.{group_in}
 use Rattle.answer_log.specs.Histories.{in_group, stores_of}
 use Rattle.answer_log.specs.Cursors.{Ahead}
 use Rattle.answer_log.specs.declared.store.Store.{Store}
@@ -39,25 +39,27 @@ last-before question rest store not =
     rw (filter-append (λ it. same_question it.question question) rest (store ∷ []), not, append-nil (stores_of question rest)) refl
 
 -- the stores of a question are all in its group
-module _ (same : (question other : Question) → IsTrue (same_question question other) ↔ (question ≡ other)) (question : Question) where
+module _ (groups : ℕ) (same : (question other : Question) → IsTrue (same_question question other) ↔ (question ≡ other))
+    (question : Question) where
   grouped-by : (store : Store) (stores : List Store)
-      → (grouped : Bool) → (group_of store.question == group_of question) ≡ grouped
+      → (grouped : Bool) → (group_in groups store.question == group_in groups question) ≡ grouped
       → (asked : Bool) → same_question store.question question ≡ asked
-      → stores_of question (in_group (group_of question) stores) ≡ stores_of question stores
-      → stores_of question (in_group (group_of question) (store ∷ stores)) ≡ stores_of question (store ∷ stores)
+      → stores_of question (in_group groups (group_in groups question) stores) ≡ stores_of question stores
+      → stores_of question (in_group groups (group_in groups question) (store ∷ stores)) ≡ stores_of question (store ∷ stores)
   grouped-by store stores true g true a more = rw (g, a) (ap (λ l. store ∷ l) more)
   grouped-by store stores true g false a more = rw (g, a) more
   grouped-by store stores false g true a more =
       let is : store.question ≡ question = (same store.question question).0 a in
-      let g' : true ≡ false = sym (eq-eqb (group_of question) (group_of question) refl) ∙ rw is at g in absurd cc
+      let g' : true ≡ false = sym (eq-eqb (group_in groups question) (group_in groups question) refl) ∙ rw is at g in absurd cc
   grouped-by store stores false g false a more = rw (g, a) more
 
-  pub grouped : (stores : List Store) → stores_of question (in_group (group_of question) stores) ≡ stores_of question stores
+  pub grouped : (stores : List Store) → stores_of question (in_group groups (group_in groups question) stores) ≡ stores_of question stores
   grouped [] = refl
   grouped (store ∷ stores) = grouped-by store stores _ refl _ refl (grouped stores)
 
   pub last-grouped : (stores : List Store) (found : Option Store)
-      → last_or None (stores_of question (in_group (group_of question) stores)) ≡ found → last_or None (stores_of question stores) ≡ found
+      → last_or None (stores_of question (in_group groups (group_in groups question) stores)) ≡ found
+      → last_or None (stores_of question stores) ≡ found
   last-grouped stores found is = ap (last_or None) (sym (grouped stores)) ∙ is
 
 pub one-less : (rest : List Store) (store : Store) (links size : ℕ) → length (rest ++ store ∷ []) + links ≡ size

@@ -5,7 +5,7 @@ use mathlib.Core.List.{IsPrefix}
 use Rattle.std.specs.declared.result.Result.{Result}
 use Rattle.logbook.specs.Pages.{Book, Nib, may_write}
 use Rattle.answer_log.specs.Handles.{EndsWith, SeesMore, spent_of}
-use Rattle.answer_log.specs.Groups.{group_of}
+use Rattle.answer_log.specs.Groups.{group_in}
 use Rattle.answer_log.specs.Logs.{history, top}
 use Rattle.answer_log.specs.Spending.{Spending}
 use Rattle.answer_log.specs.Steps.{store_by}
@@ -42,9 +42,9 @@ ends-on store old mid new one two = record {
   own = two.own ∙ one.own;
 }
 
-pub ready-on : (book : Book) (old new : List Event) (seat : ℕ) (node : Node) (nib : Nib) → SeesMore seat old new
-    → IsReady book old seat node nib → IsReady book new seat node nib
-ready-on book old new seat node nib sees it = record {
+pub ready-on : (groups : ℕ) (book : Book) (old new : List Event) (seat : ℕ) (node : Node) (nib : Nib) → SeesMore seat old new
+    → IsReady groups book old seat node nib → IsReady groups book new seat node nib
+ready-on groups book old new seat node nib sees it = record {
   named = sees.names book node.node (store_in seat node) node.link it.named;
   right = it.right;
   its = it.its;
@@ -52,13 +52,13 @@ ready-on book old new seat node nib sees it = record {
 }
 
 -- after a lost try the node is ready for another one
-pub again : (book its : Book) (old new : List Event) (seat : ℕ) (node : Node) (before after : Nib) (won : Bool) (X : Type 0)
-    → IsReady book old seat node before
+pub again : (groups : ℕ) (book its : Book) (old new : List Event) (seat : ℕ) (node : Node) (before after : Nib) (won : Bool) (X : Type 0)
+    → IsReady groups book old seat node before
     → MatchBool won X (SeesMore seat old new)
     → MatchBool won (Unit {0}) ((its ≡ book) × (after.right ≡ may_write) × (after.key ≡ node.link.key))
-    → MatchBool won (Unit {0}) ((its ≡ book) × IsReady book new seat node after)
-again book its old new seat node before after true X it sees pen = tt
-again book its old new seat node before after false X it sees pen = (
+    → MatchBool won (Unit {0}) ((its ≡ book) × IsReady groups book new seat node after)
+again groups book its old new seat node before after true X it sees pen = tt
+again groups book its old new seat node before after false X it sees pen = (
   pen.0,
   record {
     named = sees.names book node.node (store_in seat node) node.link it.named;
@@ -89,43 +89,46 @@ put-on (Ok a) seat its placed store old mid new number is mine' sees it =
 put-on (Err e) seat its placed store old mid new number is mine' sees it =
     let S : ℕ → Type 0 = λ n. SeesMore n mid new in sees-trans seat old mid new sees (subst S number it)
 
-why-on : (question : Question) (old mid new : List Store) (before after : Spending) (refusal : StoreRefusal) → IsPrefix old mid
-    → WhyLost question mid new before after refusal → WhyNotPut question old new refusal
-why-on question old mid new before after Lifeless p why = why
-why-on question old mid new before after GenerationFull p why = why
-why-on question old mid new before after Contended p why = longer old mid 16 new p why
-why-on question old mid new before after Memory p why = tt
+why-on : (groups : ℕ) (question : Question) (old mid new : List Store) (before after : Spending) (refusal : StoreRefusal) → IsPrefix old mid
+    → WhyLost groups question mid new before after refusal → WhyNotPut groups question old new refusal
+why-on groups question old mid new before after Lifeless p why = why
+why-on groups question old mid new before after GenerationFull p why = why
+why-on groups question old mid new before after Contended p why = longer old mid 16 new p why
+why-on groups question old mid new before after Memory p why = tt
 
 -- why the tries were lost, after more was seen
-pub lost-on : {A : Type 0} (result : Result A StoreRefusal) (its question : Question) (old mid now new : List Event) (was : ℕ)
+pub lost-on : {A : Type 0} (groups : ℕ) (result : Result A StoreRefusal) (its question : Question) (old mid now new : List Event) (was : ℕ)
     (begun spent : Spending)
-    → its ≡ question → IsPrefix (history old) (history mid) → IsPrefix mid now → was ≡ top (group_of question) mid
-    → IfErr result (λ refusal. (seen : List Event) → IsPrefix seen now → top (group_of its) seen ≡ was
-    → WhyLost its (history seen) (history new) begun spent refusal)
-    → IfErr result (WhyNotPut question (history old) (history new))
-lost-on (Ok a) its question old mid now new was begun spent same before later last why = tt
-lost-on (Err refusal) its question old mid now new was begun spent same before later last why =
-    let W : Question → Type 0 = λ q. top (group_of q) mid ≡ was → WhyLost q (history mid) (history new) begun spent refusal in
-    why-on question (history old) (history mid) (history new) begun spent refusal before (subst W same (why mid later) (sym last))
+    → its ≡ question → IsPrefix (history old) (history mid) → IsPrefix mid now → was ≡ top groups (group_in groups question) mid
+    → IfErr result (λ refusal. (seen : List Event) → IsPrefix seen now → top groups (group_in groups its) seen ≡ was
+    → WhyLost groups its (history seen) (history new) begun spent refusal)
+    → IfErr result (WhyNotPut groups question (history old) (history new))
+lost-on groups (Ok a) its question old mid now new was begun spent same before later last why = tt
+lost-on groups (Err refusal) its question old mid now new was begun spent same before later last why =
+    let W : Question → Type 0 = λ q. top groups (group_in groups q) mid ≡ was
+    → WhyLost groups q (history mid) (history new) begun spent refusal in
+    why-on groups question (history old) (history mid) (history new) begun spent refusal before (subst W same (why mid later) (sym last))
 
 -- what is left after the tries were lost
-leaves-why : (question its : Question) (h k new : Handle) (before : List Store) (refusal : StoreRefusal)
+leaves-why : (groups : ℕ) (question its : Question) (h k new : Handle) (before : List Store) (refusal : StoreRefusal)
     → (spent_of h).tries ≤ (spent_of k).tries → (spent_of h).missed ≤ (spent_of k).missed → (spent_of k).tries < (spent_of new).tries
-    → WhyLost its before (history new.book.log) (spent_of k) (spent_of new) refusal
+    → WhyLost groups its before (history new.book.log) (spent_of k) (spent_of new) refusal
     → (old more : List Offer) → Leaves question (view_of h old) (view_of new more) refusal
-leaves-why question its h k new before Lifeless tries missed tried why old more = absurd why
-leaves-why question its h k new before GenerationFull tries missed tried why old more = λ same. absurd (omega (arith, same, tries, tried))
-leaves-why question its h k new before Contended tries missed tried why old more = omega (arith, tries, tried)
-leaves-why question its h k new before Memory tries missed tried why old more = inr (omega (arith, missed, why))
+leaves-why groups question its h k new before Lifeless tries missed tried why old more = absurd why
+leaves-why groups question its h k new before GenerationFull tries missed tried why old more =
+    λ same. absurd (omega (arith, same, tries, tried))
+leaves-why groups question its h k new before Contended tries missed tried why old more = omega (arith, tries, tried)
+leaves-why groups question its h k new before Memory tries missed tried why old more = inr (omega (arith, missed, why))
 
-pub leaves-on : {A : Type 0} (result : Result A StoreRefusal) (its question : Question) (h k new : Handle) (mid : List Event) (was : ℕ)
+pub leaves-on : {A : Type 0} (groups : ℕ) (result : Result A StoreRefusal) (its question : Question) (h k new : Handle)
+    (mid : List Event) (was : ℕ)
     → (spent_of h).tries ≤ (spent_of k).tries → (spent_of h).missed ≤ (spent_of k).missed → (spent_of k).tries < (spent_of new).tries
-    → its ≡ question → IsPrefix mid k.book.log → was ≡ top (group_of question) mid
-    → IfErr result (λ refusal. (seen : List Event) → IsPrefix seen k.book.log → top (group_of its) seen ≡ was
-    → WhyLost its (history seen) (history new.book.log) (spent_of k) (spent_of new) refusal)
+    → its ≡ question → IsPrefix mid k.book.log → was ≡ top groups (group_in groups question) mid
+    → IfErr result (λ refusal. (seen : List Event) → IsPrefix seen k.book.log → top groups (group_in groups its) seen ≡ was
+    → WhyLost groups its (history seen) (history new.book.log) (spent_of k) (spent_of new) refusal)
     → IfErr result (λ refusal. (old more : List Offer) → Leaves question (view_of h old) (view_of new more) refusal)
-leaves-on (Ok a) its question h k new mid was tries missed tried same later last why = tt
-leaves-on (Err refusal) its question h k new mid was tries missed tried same later last why =
-    let W : Question → Type 0 = λ q. top (group_of q) mid ≡ was
-    → WhyLost q (history mid) (history new.book.log) (spent_of k) (spent_of new) refusal in
-    leaves-why question question h k new (history mid) refusal tries missed tried (subst W same (why mid later) (sym last))
+leaves-on groups (Ok a) its question h k new mid was tries missed tried same later last why = tt
+leaves-on groups (Err refusal) its question h k new mid was tries missed tried same later last why =
+    let W : Question → Type 0 = λ q. top groups (group_in groups q) mid ≡ was
+    → WhyLost groups q (history mid) (history new.book.log) (spent_of k) (spent_of new) refusal in
+    leaves-why groups question question h k new (history mid) refusal tries missed tried (subst W same (why mid later) (sym last))

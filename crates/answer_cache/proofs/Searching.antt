@@ -8,7 +8,7 @@ use Rattle.std.proofs.lemmas.List.Elements.{filter-append}
 use Rattle.std.proofs.Math.Seq.{get_or-append_seam, take-length}
 use Rattle.dns_message.specs.Questions.{same_question}
 use Rattle.dns_message.specs.declared.question.Question.{Question}
-use Rattle.answer_log.specs.Groups.{group_of, hash_of, hashed_of}
+use Rattle.answer_log.specs.Groups.{group_in, hash_of, hashed_of}
 use Rattle.answer_log.specs.Histories.{stores_of}
 use Rattle.answer_log.specs.declared.store.Store.{Store}
 use Rattle.answer_cache.specs.Carried.{has_question}
@@ -32,39 +32,39 @@ fewer items most few =
     let n = length-take-le (length items - 1) items low in omega arith
 
 -- What is left to search: none of the entries behind those whose marks are left is of the question.
-pub record IsLeft (question : Question) (entries : List Entry) (left : List Mark) : Type 0 where
+pub record IsLeft (groups : ℕ) (question : Question) (entries : List Entry) (left : List Mark) : Type 0 where
   pub front : List Entry
   pub rest : List Entry
   pub whole : entries ≡ front ++ rest
-  pub marks : left ≡ marks_of (group_of question) front
+  pub marks : left ≡ marks_of groups (group_in groups question) front
   pub none : has_question question (stores_in rest) ≡ false
 
-pub begins : (question : Question) (entries : List Entry) (left : List Mark) → left ≡ marks_of (group_of question) entries
-    → IsLeft question entries left
-begins question entries left is = record { front = entries; rest = []; whole = sym (append-nil entries); marks = is; none = refl }
+pub begins : (groups : ℕ) (question : Question) (entries : List Entry) (left : List Mark)
+    → left ≡ marks_of groups (group_in groups question) entries → IsLeft groups question entries left
+begins groups question entries left is = record { front = entries; rest = []; whole = sym (append-nil entries); marks = is; none = refl }
 
 -- The entry of the last mark that is left. Behind it none is of the question.
-pub record Stop (question : Question) (entries : List Entry) (before : List Mark) (mark : Mark) : Type 0 where
+pub record Stop (groups : ℕ) (question : Question) (entries : List Entry) (before : List Mark) (mark : Mark) : Type 0 where
   pub front : List Entry
   pub entry : Entry
   pub back : List Entry
   pub whole : entries ≡ front ++ entry ∷ back
   pub place_is : mark.place ≡ length front
   pub hash_is : mark.hash ≡ hash_of (hashed_of entry.question)
-  pub marks : before ≡ marks_of (group_of question) front
+  pub marks : before ≡ marks_of groups (group_in groups question) front
   pub none : has_question question (stores_in back) ≡ false
 
 -- The entry of the last mark of a group: behind it none is of the group.
-record LastMark (group first : ℕ) (entries : List Entry) (before : List Mark) (mark : Mark) : Type 0 where
+record LastMark (groups group first : ℕ) (entries : List Entry) (before : List Mark) (mark : Mark) : Type 0 where
   pub front : List Entry
   pub entry : Entry
   pub back : List Entry
   pub split : entries ≡ front ++ entry ∷ back
-  pub before_is : before ≡ marks_from group first front
+  pub before_is : before ≡ marks_from groups group first front
   pub place_is : mark.place ≡ first + length front
   pub hash_is : mark.hash ≡ hash_of (hashed_of entry.question)
   pub next : ℕ
-  pub alone : marks_from group next back ≡ []
+  pub alone : marks_from groups group next back ≡ []
 
 abbrev head-or : Mark → List Mark → Mark
 head-or d [] = d
@@ -76,19 +76,19 @@ same-head a b more other e = ap (head-or a) e
 same-tail : (a b : Mark) (more other : List Mark) → a ∷ more ≡ b ∷ other → more ≡ other
 same-tail a b more other e = ap (drop 1) e
 
-last-mark : (group first : ℕ) (entries : List Entry) (before : List Mark) (mark : Mark)
-    → marks_from group first entries ≡ before ++ mark ∷ [] → LastMark group first entries before mark
-last-mark group first [] [] mark e = absurd cc
-last-mark group first [] (m ∷ ms) mark e = absurd cc
-last-mark group first (entry ∷ entries) before mark e =
-    by-test (group_of entry.question == group) refl (λ b r. last-mark group (first + 1) entries b mark r)
+last-mark : (groups group first : ℕ) (entries : List Entry) (before : List Mark) (mark : Mark)
+    → marks_from groups group first entries ≡ before ++ mark ∷ [] → LastMark groups group first entries before mark
+last-mark groups group first [] [] mark e = absurd cc
+last-mark groups group first [] (m ∷ ms) mark e = absurd cc
+last-mark groups group first (entry ∷ entries) before mark e =
+    by-test (group_in groups entry.question == group) refl (λ b r. last-mark groups group (first + 1) entries b mark r)
   where
-    by-before : (b : List Mark) → (group_of entry.question == group) ≡ true
-        → ((b : List Mark) → marks_from group (first + 1) entries ≡ b ++ mark ∷ [] → LastMark group (first + 1) entries b mark)
-        → mark_of (first, entry) ∷ marks_from group (first + 1) entries ≡ b ++ mark ∷ []
-        → LastMark group first (entry ∷ entries) b mark
+    by-before : (b : List Mark) → (group_in groups entry.question == group) ≡ true
+        → ((b : List Mark) → marks_from groups group (first + 1) entries ≡ b ++ mark ∷ [] → LastMark groups group (first + 1) entries b mark)
+        → mark_of (first, entry) ∷ marks_from groups group (first + 1) entries ≡ b ++ mark ∷ []
+        → LastMark groups group first (entry ∷ entries) b mark
     by-before [] is goes r =
-        let m = same-head (mark_of (first, entry)) mark (marks_from group (first + 1) entries) [] r in record {
+        let m = same-head (mark_of (first, entry)) mark (marks_from groups group (first + 1) entries) [] r in record {
           front = [];
           entry = entry;
           back = entries;
@@ -97,11 +97,11 @@ last-mark group first (entry ∷ entries) before mark e =
           place_is = let p = ap (λ (it : Mark). it.place) m in omega (arith, p);
           hash_is = sym (ap (λ (it : Mark). it.hash) m);
           next = first + 1;
-          alone = same-tail (mark_of (first, entry)) mark (marks_from group (first + 1) entries) [] r;
+          alone = same-tail (mark_of (first, entry)) mark (marks_from groups group (first + 1) entries) [] r;
         }
     by-before (m ∷ ms) is goes r =
-        let here = same-head (mark_of (first, entry)) m (marks_from group (first + 1) entries) (ms ++ mark ∷ []) r in
-        let more = goes ms (same-tail (mark_of (first, entry)) m (marks_from group (first + 1) entries) (ms ++ mark ∷ []) r) in record {
+        let here = same-head (mark_of (first, entry)) m (marks_from groups group (first + 1) entries) (ms ++ mark ∷ []) r in
+        let more = goes ms (same-tail (mark_of (first, entry)) m (marks_from groups group (first + 1) entries) (ms ++ mark ∷ []) r) in record {
           front = entry ∷ more.front;
           entry = more.entry;
           back = more.back;
@@ -113,9 +113,9 @@ last-mark group first (entry ∷ entries) before mark e =
           alone = more.alone;
         }
 
-    by-test : (is : Bool) → (group_of entry.question == group) ≡ is
-        → ((b : List Mark) → marks_from group (first + 1) entries ≡ b ++ mark ∷ [] → LastMark group (first + 1) entries b mark)
-        → LastMark group first (entry ∷ entries) before mark
+    by-test : (is : Bool) → (group_in groups entry.question == group) ≡ is
+        → ((b : List Mark) → marks_from groups group (first + 1) entries ≡ b ++ mark ∷ [] → LastMark groups group (first + 1) entries b mark)
+        → LastMark groups group first (entry ∷ entries) before mark
     by-test true is goes = by-before before is goes (rw is at e)
     by-test false is goes =
         let more = goes before (rw is at e) in record {
@@ -182,26 +182,27 @@ module _ (question : Question) where
   pub none-there : (stores : List Store) → has_question question stores ≡ false → last_or None (stores_of question stores) ≡ None
   none-there stores none = rw (none-of-it question stores none) refl
 
-module _ (same : (question other : Question) → IsTrue (same_question question other) ↔ (question ≡ other)) (question : Question) where
+module _ (groups : ℕ) (same : (question other : Question) → IsTrue (same_question question other) ↔ (question ≡ other))
+    (question : Question) where
   -- entries outside the group of a question are not of it
-  none-grouped : (first : ℕ) (entries : List Entry) → marks_from (group_of question) first entries ≡ []
+  none-grouped : (first : ℕ) (entries : List Entry) → marks_from groups (group_in groups question) first entries ≡ []
       → has_question question (stores_in entries) ≡ false
   none-grouped first [] e = refl
   none-grouped first (entry ∷ entries) e =
       by-test _ refl _ refl (none-grouped (first + 1) entries)
     where
-      by-test : (grouped : Bool) → (group_of entry.question == group_of question) ≡ grouped
+      by-test : (grouped : Bool) → (group_in groups entry.question == group_in groups question) ≡ grouped
           → (asked : Bool) → same_question entry.question question ≡ asked
-          → (marks_from (group_of question) (first + 1) entries ≡ [] → has_question question (stores_in entries) ≡ false)
+          → (marks_from groups (group_in groups question) (first + 1) entries ≡ [] → has_question question (stores_in entries) ≡ false)
           → has_question question (stores_in (entry ∷ entries)) ≡ false
       by-test true g asked a more =
-          let wrong : mark_of (first, entry) ∷ marks_from (group_of question) (first + 1) entries ≡ [] = rw g at e in absurd cc
+          let wrong : mark_of (first, entry) ∷ marks_from groups (group_in groups question) (first + 1) entries ≡ [] = rw g at e in absurd cc
       by-test false g true a more =
           let is : entry.question ≡ question = (same entry.question question).0 a in
-          let g' : true ≡ false = sym (eq-eqb (group_of question) (group_of question) refl) ∙ rw is at g in absurd cc
+          let g' : true ≡ false = sym (eq-eqb (group_in groups question) (group_in groups question) refl) ∙ rw is at g in absurd cc
       by-test false g false a more = rw a (more (rw g at e))
 
-  pub ends : (entries : List Entry) (left : List Mark) → IsLeft question entries left → left ≡ []
+  pub ends : (entries : List Entry) (left : List Mark) → IsLeft groups question entries left → left ≡ []
       → IsLastPlace question (stores_in entries) None
   ends entries left it is =
       let front = none-grouped 0 it.front (sym it.marks ∙ is) in
@@ -209,8 +210,8 @@ module _ (same : (question other : Question) → IsTrue (same_question question 
 
   -- a step of the search, to the last mark that is left
   stop-by : (entries front rest : List Entry) (before : List Mark) (mark : Mark) → entries ≡ front ++ rest
-      → has_question question (stores_in rest) ≡ false → LastMark (group_of question) 0 front before mark
-      → Stop question entries before mark
+      → has_question question (stores_in rest) ≡ false → LastMark groups (group_in groups question) 0 front before mark
+      → Stop groups question entries before mark
   stop-by entries front rest before mark whole none last = record {
     front = last.front;
     entry = last.entry;
@@ -222,19 +223,19 @@ module _ (same : (question other : Question) → IsTrue (same_question question 
     none = none-both question last.back rest (none-grouped last.next last.back last.alone) none;
   }
 
-  pub stop : (entries : List Entry) (left before : List Mark) (mark : Mark) → IsLeft question entries left → left ≡ before ++ mark ∷ []
-      → Stop question entries before mark
+  pub stop : (entries : List Entry) (left before : List Mark) (mark : Mark) → IsLeft groups question entries left → left ≡ before ++ mark ∷ []
+      → Stop groups question entries before mark
   stop entries left before mark it split =
       stop-by entries it.front it.rest before mark it.whole it.none
-      (last-mark (group_of question) 0 it.front before mark (sym it.marks ∙ split))
+      (last-mark groups (group_in groups question) 0 it.front before mark (sym it.marks ∙ split))
 
-  module _ (entries : List Entry) (before : List Mark) (mark : Mark) (it : Stop question entries before mark) where
+  module _ (entries : List Entry) (before : List Mark) (mark : Mark) (it : Stop groups question entries before mark) where
     pub within : mark.place < length entries
     within =
         let sizes = length-append it.front (it.entry ∷ it.back) in
         let all = ap length it.whole in let here = it.place_is in omega (arith, sizes, all, here)
 
-    goes-on : same_question it.entry.question question ≡ false → IsLeft question entries before
+    goes-on : same_question it.entry.question question ≡ false → IsLeft groups question entries before
     goes-on not = record {
       front = it.front;
       rest = it.entry ∷ it.back;
@@ -244,7 +245,7 @@ module _ (same : (question other : Question) → IsTrue (same_question question 
     }
 
     -- its entry is of another question, where the hash is another one
-    pub passes-hash : ((mark.hash ≡ hash_of (hashed_of question)) → ⊥) → IsLeft question entries before
+    pub passes-hash : ((mark.hash ≡ hash_of (hashed_of question)) → ⊥) → IsLeft groups question entries before
     passes-hash other = goes-on (other-hash same it.entry.question question _ refl (λ e. other (it.hash_is ∙ e)))
 
     module _ (entry : Entry) (read : entry ≡ get_or entries mark.place entry) where
@@ -253,7 +254,7 @@ module _ (same : (question other : Question) → IsTrue (same_question question 
           ∙ ap (λ k. get_or (it.front ++ it.entry ∷ it.back) k entry) it.place_is
           ∙ get_or-append_seam it.front it.entry it.back entry)
 
-      pub passes-entry : same_question entry.question question ≡ false → IsLeft question entries before
+      pub passes-entry : same_question entry.question question ≡ false → IsLeft groups question entries before
       passes-entry not = goes-on (rw entry-is not)
 
       pub finds : same_question entry.question question ≡ true → IsLastAt question (stores_in entries) mark.place

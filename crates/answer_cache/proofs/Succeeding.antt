@@ -10,13 +10,13 @@ use Rattle.std.specs.List.{All, range_with_len}
 use mathlib.Core.List.{IsPrefix}
 use Rattle.answer_log.specs.Handles.{EndsWith}
 use Rattle.answer_log.specs.Histories.{IsHistory, IsSound, mine}
-use Rattle.answer_log.specs.Logs.{history, seats_in}
+use Rattle.answer_log.specs.Logs.{groups_in, history, seats_in}
 use Rattle.answer_log.specs.Steps.{store_by}
 use Rattle.answer_log.specs.declared.event.Event.{Event}
 use Rattle.answer_log.specs.declared.event.Event.TheVariants.{Asks, Named, Opened, Placed}
 use Rattle.answer_log.specs.declared.handle.Handle.{Handle}
 use Rattle.answer_log.specs.declared.store.Store.{Store}
-use Rattle.answer_cache.specs.Carried.{carried_stores, offer_in, offers_in, own_of, seat_after}
+use Rattle.answer_cache.specs.Carried.{CarriedView, carried_stores, offer_in, offers_in, own_of, seat_after}
 use Rattle.answer_cache.specs.Lists.{own_store}
 use Rattle.answer_cache.specs.Seats.{Offer, SeatView}
 use Rattle.answer_cache.specs.Shared.{Belongs, CacheView, SharedView, cache_view, view_of}
@@ -37,8 +37,8 @@ module _ (entries : List Entry) (at : ℕ) (entry : Entry) (low : at < length en
       ∙ ap own_store (get_or-map offer_in entries at entry (offer_in entry) low ∙ ap offer_in (sym is))
 
   -- what is carried is sound, whoever stores it
-  pub sound-at : IsHistory (carried_stores (offers_in entries)) → IsSound (own_store (offer_in entry))
-  sound-at it = subst IsSound at-is (it.sound at (own_store (offer_in entry)) within)
+  pub sound-at : (groups : ℕ) → IsHistory groups (carried_stores (offers_in entries)) → IsSound (own_store (offer_in entry))
+  sound-at groups it = subst IsSound at-is (it.sound at (own_store (offer_in entry)) within)
 
   -- with the next one stored, the seat's own stores are those that are carried up to it
   pub own-next : (number : ℕ) (old new : List Store) → number ≡ 0
@@ -54,13 +54,14 @@ module _ (entries : List Entry) (at : ℕ) (entry : Entry) (low : at < length en
       ∙ (ap (λ s. take at (carried_stores (offers_in entries)) ++ s ∷ []) (sym at-is)
       ∙ sym (take_more (carried_stores (offers_in entries)) at store within)))
 
--- a log of seats begins with how many there are
-pub opened-first : (log : List Event) (seats : ℕ) → seats_in log ≡ seats → 0 < seats → IsPrefix (Opened seats ∷ []) log
-opened-first [] seats is some = absurd (omega arith)
-opened-first (Opened n ∷ log) seats is some = (log, ap (λ k. Opened k ∷ log) (sym is))
-opened-first (Asks s n ∷ log) seats is some = absurd (omega arith)
-opened-first (Named n x l ∷ log) seats is some = absurd (omega arith)
-opened-first (Placed n x l ∷ log) seats is some = absurd (omega arith)
+-- a log of seats begins with how many seats and groups there are
+pub opened-first : (log : List Event) (seats groups : ℕ) → seats_in log ≡ seats → groups_in log ≡ groups → 0 < seats
+    → IsPrefix (Opened seats groups ∷ []) log
+opened-first [] seats groups is are some = absurd (omega arith)
+opened-first (Opened n m ∷ log) seats groups is are some = (log, λ i. Opened (sym is i) (sym are i) ∷ log)
+opened-first (Asks s n ∷ log) seats groups is are some = absurd (omega arith)
+opened-first (Named n x l ∷ log) seats groups is are some = absurd (omega arith)
+opened-first (Placed n x l ∷ log) seats groups is are some = absurd (omega arith)
 
 first-zero : (seats : ℕ) (store : Store) (rest : List Store) (seat : ℕ) → store.seat ≡ seat → seat < seats
     → ((n : ℕ) → 0 < n → n < seats → mine (store ∷ rest) n ≡ []) → seat ≡ 0
@@ -93,34 +94,38 @@ none-more stores n before here seat some low = none-by (seat == n) refl
         less a b low other = omega (arith, other)
 
 -- a seat that has seen these stores, and was handed nothing
-abbrev pub seat_seen : List Store → ℕ → SeatView
-seat_seen stores number = record { number = number; seen = stores; own = mine stores number; offered = [] }
+abbrev pub seat_seen : ℕ → List Store → ℕ → SeatView
+seat_seen groups stores number =
+    record { number = number; seen = stores; own = mine stores number; offered = []; groups = groups }
 
 -- a seat that has seen just what was told
-pub seat-seen : (handle : Handle) (offered : List Offer) (log : List Event) (number : ℕ) → handle.book.log ≡ log → handle.number ≡ number
-    → offered ≡ [] → (view_of handle offered).seat ≡ seat_seen (history log) number
-seat-seen handle offered log number grown num none = λ i. record {
+pub seat-seen : (handle : Handle) (offered : List Offer) (log : List Event) (groups number : ℕ) → handle.book.log ≡ log → handle.groups ≡ groups
+    → handle.number ≡ number → offered ≡ [] → (view_of handle offered).seat ≡ seat_seen groups (history log) number
+seat-seen handle offered log groups number grown so num none = λ i. record {
   number = num i;
   seen = history (grown i);
   own = mine (history (grown i)) (num i);
   offered = none i;
+  groups = so i;
 }
 
 pub seat-belongs : (handle : Handle) (offered : List Offer) (cache : CacheView) (log : List Event) → handle.book.log ≡ log
-    → cache_view handle.book.book handle.seats ≡ cache → IsHistory (history log) → Belongs cache (view_of handle offered)
+    → cache_view handle.book.book handle.seats handle.groups ≡ cache → IsHistory handle.groups (history log)
+    → Belongs cache (view_of handle offered)
 seat-belongs handle offered cache log grown same kept =
-    let K : List Event → Type 0 = λ l. IsHistory (history l) in record {
+    let K : List Event → Type 0 = λ l. IsHistory handle.groups (history l) in record {
       made = same;
       is = record { own = refl; history = subst K (sym grown) kept };
+      groups = ap (λ v. v.groups) same;
     }
 
 -- one seat more
-pub seats-on : (made : List SharedView) (view : SharedView) (stores : List Store) (size : ℕ)
-    → map (λ it. it.seat) made ≡ map (seat_seen stores) (range_with_len 0 size) → view.seat ≡ seat_seen stores size
-    → map (λ it. it.seat) (made ++ view ∷ []) ≡ map (seat_seen stores) (range_with_len 0 (size + 1))
-seats-on made view stores size before is =
+pub seats-on : (made : List SharedView) (view : SharedView) (groups : ℕ) (stores : List Store) (size : ℕ)
+    → map (λ it. it.seat) made ≡ map (seat_seen groups stores) (range_with_len 0 size) → view.seat ≡ seat_seen groups stores size
+    → map (λ it. it.seat) (made ++ view ∷ []) ≡ map (seat_seen groups stores) (range_with_len 0 (size + 1))
+seats-on made view groups stores size before is =
     map-append (λ it. it.seat) made (view ∷ [])
-    ∙ ((λ i. before i ++ is i ∷ []) ∙ sym (map-range_with_len_more (seat_seen stores) 0 size size (omega arith)))
+    ∙ ((λ i. before i ++ is i ∷ []) ∙ sym (map-range_with_len_more (seat_seen groups stores) 0 size size (omega arith)))
 
 -- what is carried is of seat 0
 own-is : (carried : List Offer) (number : ℕ) → mine (carried_stores carried) number ≡ own_of (carried_stores carried) number
@@ -130,13 +135,14 @@ own-is (offer ∷ rest) zero = ap (λ l. own_store offer ∷ l) (own-is rest zer
 own-is (offer ∷ rest) (suc number) = rw (ne_eqb 0 (suc number) (λ e. absurd (omega (arith, e)))) (own-is rest (suc number))
 
 -- all seats have seen what is carried, where it is all that was stored
-pub seats-are : (carried : List Offer) (stores : List Store) (numbers : List ℕ) → stores ≡ carried_stores carried
-    → map (seat_seen stores) numbers ≡ map (seat_after carried) numbers
+pub seats-are : (carried : CarriedView) (stores : List Store) (numbers : List ℕ) → stores ≡ carried_stores carried.offers
+    → map (seat_seen carried.groups stores) numbers ≡ map (seat_after carried) numbers
 seats-are carried stores numbers same =
-    ap (λ s. map (seat_seen s) numbers) same
+    ap (λ s. map (seat_seen carried.groups s) numbers) same
     ∙ (λ i. map (λ number. record {
       number = number;
-      seen = carried_stores carried;
-      own = own-is carried number i;
+      seen = carried_stores carried.offers;
+      own = own-is carried.offers number i;
       offered = [];
+      groups = carried.groups;
     }) numbers)

@@ -46,21 +46,32 @@ lives_at now offer = nat_lt now (offer.moment + offer.answer.life)
 abbrev pub living_of : ℕ → List Store → List Offer
 living_of now stores = filter (lives_at now) (map unseated (last_stores stores))
 
--- What is carried of the first groups, from 0 on, by a seat that had seen one history before and
--- has seen another one afterwards: of each group the last stores of their questions that live, at a
--- history of its own. None of these is shorter than that of the group before.
-pub record IsCarriedOf (groups : ℕ) (before after : List Store) (now : ℕ)
+-- What is carried of the first ones of so many groups, from 0 on, by a seat that had seen one
+-- history before and has seen another one afterwards: of each group the last stores of their
+-- questions that live, at a history of its own. None of these is shorter than that of the group
+-- before.
+pub record IsCarriedOf (groups first : ℕ) (before after : List Store) (now : ℕ)
     (carried : List Offer) : Type 0 where
   pub history : ℕ → List Store
-  pub from : (group : ℕ) → group < groups → IsPrefix before (history group)
-  pub next : (group : ℕ) → group + 1 < groups → IsPrefix (history group) (history (group + 1))
-  pub till : (group : ℕ) → group < groups → IsPrefix (history group) after
-  pub all : carried ≡ flat_map (λ group. living_of now (in_group group (history group)))
-      (range_with_len 0 groups)
+  pub from : (group : ℕ) → group < first → IsPrefix before (history group)
+  pub next : (group : ℕ) → group + 1 < first → IsPrefix (history group) (history (group + 1))
+  pub till : (group : ℕ) → group < first → IsPrefix (history group) after
+  pub all : carried ≡ flat_map (λ group. living_of now (in_group groups group (history group)))
+      (range_with_len 0 first)
 
--- what is carried at a moment, of all 64 groups (`IsCarriedOf`)
-abbrev pub IsCarried : List Store → List Store → ℕ → List Offer → Type 0
-IsCarried before after now carried = IsCarriedOf 64 before after now carried
+-- what contracts see of what is carried: of how many groups it is, and its stores without their
+-- seats
+pub record CarriedView : Type 0 where
+  pub groups : ℕ
+  pub offers : List Offer
+
+abbrev pub carried_view : ℕ → List Offer → CarriedView
+carried_view groups offers = record { groups = groups; offers = offers }
+
+-- what is carried at a moment, of all its groups (`IsCarriedOf`)
+abbrev pub IsCarried : List Store → List Store → ℕ → CarriedView → Type 0
+IsCarried before after now carried =
+    IsCarriedOf carried.groups carried.groups before after now carried.offers
 
 -- the own stores of a seat, where all are of seat 0
 abbrev pub own_of : List Store → ℕ → List Store
@@ -68,11 +79,12 @@ own_of stores zero = stores
 own_of stores (suc number) = []
 
 -- a seat of a cache that begins with what was carried, and was handed nothing
-abbrev pub seat_after : List Offer → ℕ → SeatView
+abbrev pub seat_after : CarriedView → ℕ → SeatView
 seat_after carried number =
     record {
       number = number;
-      seen = carried_stores carried;
-      own = own_of (carried_stores carried) number;
+      seen = carried_stores carried.offers;
+      own = own_of (carried_stores carried.offers) number;
       offered = [];
+      groups = carried.groups;
     }

@@ -1,5 +1,5 @@
 -- What a seat remembers of the nodes of a group.
-use Rattle.std.specs.Prelude.{◌≡◌, ℕ, List, [], ◌∷◌, ◌++◌, length}
+use Rattle.std.specs.Prelude.{◌≡◌, ℕ, List, [], ◌∷◌, ◌++◌}
 use Rattle.std.specs.List.{All}
 use Rattle.logbook.specs.Pages.{Book}
 use Rattle.answer_log.specs.Groups.{hash_of, hashed_of}
@@ -33,16 +33,16 @@ top_from last (entry ∷ entries) = top_from entry.node entries
 abbrev pub top_of : List IndexEntry → ℕ
 top_of entries = top_from 0 entries
 
--- the entries tell the stores that a group had at some moment
-pub record IsIndex (book : Book) (it : Index) : Type 0 where
+-- the entries tell the stores that a group, one of so many, had at some moment
+pub record IsIndex (groups : ℕ) (book : Book) (it : Index) : Type 0 where
   pub same : it.seen.book ≡ book
   pub group : ℕ
   pub front : List Event
   pub back : List Event
   pub split : it.seen.log ≡ front ++ back
-  pub at : top_of it.entries.items ≡ top group front
-  pub tells : TellsAll it.seen.log it.entries.items (in_group group (history front))
+  pub at : top_of it.entries.items ≡ top groups group front
+  pub tells : TellsAll it.seen.log it.entries.items (in_group groups group (history front))
 
--- there is an index for each group
-abbrev pub AreIndexes : Book → List Index → Type 0
-AreIndexes book indexes = (length indexes ≡ 64) × All (IsIndex book) indexes
+-- what a seat remembers, of some of so many groups
+abbrev pub AreIndexes : ℕ → Book → List Index → Type 0
+AreIndexes groups book indexes = All (IsIndex groups book) indexes

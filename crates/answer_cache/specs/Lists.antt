@@ -1,5 +1,6 @@
 -- What a list of stores takes, where no other seat is there.
-use Rattle.std.specs.Prelude.{◌≡◌, ◌<◌, List, [], ◌∷◌, ◌++◌}
+use Rattle.std.specs.Prelude.{◌≡◌, ℕ, ◌<◌, ◌≤◌, IsTrue, List, [], ◌∷◌, ◌++◌}
+use Rattle.std.specs.Int.{is_power_of_two}
 use Rattle.answer_log.specs.Histories.{IsFull}
 use Rattle.answer_log.specs.declared.store.Store.{Store}
 use Rattle.answer_cache.specs.Seats.{Offer, SeatView, IsSeat, store_of}
@@ -16,9 +17,16 @@ own_store offer = record {
   moment = offer.moment;
 }
 
--- what the seat of a list has seen: all stores are its own
-abbrev pub seat_at : List Store → List Offer → SeatView
-seat_at history offered = record { number = 0; seen = history; own = history; offered = offered }
+-- of how many groups a list can be: a power of two from 64 to 65,536
+pub record IsGroupCount (groups : ℕ) : Type 0 where
+  pub least : 64 ≤ groups
+  pub most : groups ≤ 65536
+  pub power : IsTrue (is_power_of_two groups)
+
+-- what the seat of a list of so many groups has seen: all stores are its own
+abbrev pub seat_at : ℕ → List Store → List Offer → SeatView
+seat_at groups history offered =
+    record { number = 0; seen = history; own = history; offered = offered; groups = groups }
 
 -- what holds of the seat of a list: what it has seen is what it stored
 pub record IsListSeat (seat : SeatView) : Type 0 where
@@ -37,14 +45,15 @@ stored_too seat offer = record seat {
   offered = seat.offered ++ offer ∷ [];
 }
 
--- the answer lives, and there is room in the question's group
-abbrev pub Takes : List Store → Offer → Type 0
-Takes history offer = (0 < offer.answer.life) × (IsFull history offer.question → ⊥)
+-- the answer lives, and there is room in the question's group, one of so many
+abbrev pub Takes : ℕ → List Store → Offer → Type 0
+Takes groups history offer = (0 < offer.answer.life) × (IsFull groups history offer.question → ⊥)
 
 -- where each refusal comes, and it comes exactly there; memory is needed only for what would be
 -- taken
-abbrev pub Refuses : List Store → Offer → StoreRefusal → Type 0
-Refuses history offer Lifeless = offer.answer.life ≡ 0
-Refuses history offer GenerationFull = (0 < offer.answer.life) × IsFull history offer.question
-Refuses history offer Contended = ⊥
-Refuses history offer Memory = Takes history offer
+abbrev pub Refuses : ℕ → List Store → Offer → StoreRefusal → Type 0
+Refuses groups history offer Lifeless = offer.answer.life ≡ 0
+Refuses groups history offer GenerationFull =
+    (0 < offer.answer.life) × IsFull groups history offer.question
+Refuses groups history offer Contended = ⊥
+Refuses groups history offer Memory = Takes groups history offer

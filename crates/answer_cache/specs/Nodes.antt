@@ -72,16 +72,18 @@ pub record Holds (book : Book) (old new : Handle) : Type 0 where
   pub handle : IsHandle new
   pub number : new.number ≡ old.number
   pub seats : new.seats ≡ old.seats
+  pub groups : new.groups ≡ old.groups
   pub same : new.book.book ≡ book
   pub names : new.book.names ≡ old.book.names
 
--- what is to be placed: the log names the node so, and the pen writes its link
-pub record IsReady (book : Book) (log : List Event) (seat : ℕ) (node : Node)
+-- what is to be placed in a log of so many groups: the log names the node so, and the pen writes
+-- its link
+pub record IsReady (groups : ℕ) (book : Book) (log : List Event) (seat : ℕ) (node : Node)
     (nib : Nib) : Type 0 where
   pub named : IsNamed book log node.node (store_in seat node) node.link
   pub right : nib.right ≡ may_write
   pub its : nib.key ≡ node.link.key
-  pub above : 64 < node.link.key
+  pub above : groups < node.link.key
 
 -- the node has this question with its hash, and this answer, from this moment on
 abbrev pub Says : Node → Question → AnswerValue → ℕ → Type 0
@@ -93,24 +95,24 @@ abbrev pub LeavesPlaces : Handle → Handle → ShelfRefusal → Type 0
 LeavesPlaces old new Unnamed = new.node_count ≡ old.node_count
 LeavesPlaces old new Untaken = Unit {0}
 
--- why a try does not begin
-abbrev pub WhyNoRoom : Question → List Store → Spending → Spending → StoreRefusal → Type 0
-WhyNoRoom question after old new Lifeless = ⊥
-WhyNoRoom question after old new GenerationFull = IsFull after question
-WhyNoRoom question after old new Contended = ⊥
-WhyNoRoom question after old new Memory = old.missed < new.missed
+-- why a try does not begin, where the question's group is one of so many
+abbrev pub WhyNoRoom : ℕ → Question → List Store → Spending → Spending → StoreRefusal → Type 0
+WhyNoRoom groups question after old new Lifeless = ⊥
+WhyNoRoom groups question after old new GenerationFull = IsFull groups after question
+WhyNoRoom groups question after old new Contended = ⊥
+WhyNoRoom groups question after old new Memory = old.missed < new.missed
 
 -- why no try placed the node
-abbrev pub WhyLost : Question → List Store → List Store → Spending → Spending → StoreRefusal
+abbrev pub WhyLost : ℕ → Question → List Store → List Store → Spending → Spending → StoreRefusal
     → Type 0
-WhyLost question before after old new Lifeless = ⊥
-WhyLost question before after old new GenerationFull = IsFull after question
-WhyLost question before after old new Contended = length before + 16 ≤ length after
-WhyLost question before after old new Memory = old.missed < new.missed
+WhyLost groups question before after old new Lifeless = ⊥
+WhyLost groups question before after old new GenerationFull = IsFull groups after question
+WhyLost groups question before after old new Contended = length before + 16 ≤ length after
+WhyLost groups question before after old new Memory = old.missed < new.missed
 
 -- why nothing was put
-abbrev pub WhyNotPut : Question → List Store → List Store → StoreRefusal → Type 0
-WhyNotPut question before after Lifeless = ⊥
-WhyNotPut question before after GenerationFull = IsFull after question
-WhyNotPut question before after Contended = length before + 16 ≤ length after
-WhyNotPut question before after Memory = Unit {0}
+abbrev pub WhyNotPut : ℕ → Question → List Store → List Store → StoreRefusal → Type 0
+WhyNotPut groups question before after Lifeless = ⊥
+WhyNotPut groups question before after GenerationFull = IsFull groups after question
+WhyNotPut groups question before after Contended = length before + 16 ≤ length after
+WhyNotPut groups question before after Memory = Unit {0}

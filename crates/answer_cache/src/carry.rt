@@ -10,7 +10,7 @@ ghost use Rattle.answer_log.specs.Histories.{cached, in_group};
 ghost use Rattle.answer_log.specs.Logs.{history};
 ghost use Rattle.answer_log.specs.Cursors.{Ahead};
 ghost use Rattle.answer_log.specs.declared.store.Store.{Store};
-ghost use Rattle.answer_cache.specs.Carried.{IsCarried, IsCarriedOf, carried_stores, lives_at};
+ghost use Rattle.answer_cache.specs.Carried.{IsCarried, carried_view, lives_at};
 ghost use Rattle.answer_cache.specs.Carried.{last_stores, living_of, offers_in, unseated};
 ghost use Rattle.answer_cache.specs.Nodes.{Costs, Holds, offer_of_node};
 ghost use Rattle.answer_cache.specs.Seats.{GoesOn, StoresNothing};
@@ -20,7 +20,7 @@ use crate::carried::{Carried, Entry};
 use crate::node::Node;
 use crate::seat::Seat;
 use crate::shared_cache::SharedCache;
-use answer_log::{Cursor, GROUP_COUNT, GROUP_LIMIT, Handle, law_log_keeps_its_rule};
+use answer_log::{Cursor, GROUP_LIMIT, Handle, law_log_keeps_its_rule};
 use dns_answers::Moment;
 use dns_message::law_same_questions_are_equal;
 use std::alloc::{AllocError, Global};
@@ -98,19 +98,20 @@ impl SharedCache {
         &self,
         alloc: Global,
         handle: &mut Handle,
-        group: u8,
+        group: u32,
         now: Moment,
         entries: &mut Vec<Entry>,
     ) -> Result<(), AllocError>
         requires handle { IsHandle handle.old }
-        requires book { handle.old.book.book ≡ self.now.book }
-        requires group { group < 64 }
+        requires book { (handle.old.book.book ≡ self.now.book)
+            × (handle.old.groups ≡ self.now.groups) }
+        requires group { group < self.now.groups }
         ensures holds { Holds self.now.book handle.old handle.new }
         ensures seen { SeesMore handle.old.number handle.old.book.log handle.new.book.log }
         ensures node_count { handle.new.node_count ≡ handle.old.node_count }
         ensures costs { Costs (spent_of handle.old) (spent_of handle.new) group_limit 0 }
         ensures added { OnOk result (offers_in entries.new.items ≡ offers_in entries.old.items
-            ++ living_of now (in_group group (history handle.new.book.log))) }
+            ++ living_of now (in_group self.now.groups group (history handle.new.book.log))) }
         ensures wanted { OnErr result ((history handle.new.book.log ≢ [])
             ⊎ ((spent_of handle.old).missed < (spent_of handle.new).missed)) }
     {
@@ -129,19 +130,22 @@ impl SharedCache {
         now: Moment,
     ) -> Result<Vec<Entry>, AllocError>
         requires handle { IsHandle handle.old }
-        requires book { handle.old.book.book ≡ self.now.book }
+        requires book { (handle.old.book.book ≡ self.now.book)
+            × (handle.old.groups ≡ self.now.groups) }
         ensures holds { Holds self.now.book handle.old handle.new }
         ensures seen { SeesMore handle.old.number handle.old.book.log handle.new.book.log }
         ensures node_count { handle.new.node_count ≡ handle.old.node_count }
-        ensures costs { Costs (spent_of handle.old) (spent_of handle.new) (64 * group_limit) 0 }
+        ensures costs { Costs (spent_of handle.old) (spent_of handle.new)
+            (self.now.groups * group_limit) 0 }
         ensures carried { IfOk result
             (λ entries. IsCarried (history handle.old.book.log) (history handle.new.book.log) now
-            (offers_in entries.items)) }
+            (carried_view self.now.groups (offers_in entries.items))) }
         ensures wanted { OnErr result ((history handle.new.book.log ≢ [])
             ⊎ ((spent_of handle.old).missed < (spent_of handle.new).missed)) }
     {
         let mut entries = Vec::new(alloc);
-        'groups: for group in 0..GROUP_COUNT {
+        let groups = handle.groups;
+        'groups: for group in 0..groups {
             self.carry_group(alloc, handle, group, now, &mut entries)?;
         }
         Ok(entries)
@@ -159,13 +163,18 @@ impl SharedCache {
         ensures goes_on { GoesOn seat.old.seat seat.new.seat }
         ensures stores_nothing { StoresNothing seat.old.seat seat.new.seat }
         ensures node_count { seat.new.node_count ≡ seat.old.node_count }
-        ensures takes { Takes seat.old seat.new (64 * group_limit) 0 }
+        ensures takes { Takes seat.old seat.new (self.now.groups * group_limit) 0 }
+        ensures groups { IfOk result (λ carried. carried.groups ≡ self.now.groups) }
         ensures carried { IfOk result (IsCarried seat.old.seat.seen seat.new.seat.seen now) }
         ensures wanted { OnErr result
             ((seat.new.seat.seen ≢ []) ⊎ (seat.old.missed < seat.new.missed)) }
     {
+        let groups = seat.handle.groups;
         let entries = self.carry_groups(alloc, &mut seat.handle, now);
         law_log_keeps_its_rule(&seat.handle.book);
-        Ok(Carried { entries: entries? })
+        Ok(Carried {
+            groups,
+            entries: entries?,
+        })
     }
 }

@@ -1,8 +1,8 @@
 //! What a seat remembers of the nodes of a group.
-ghost use Rattle.std.specs.Prelude.{◌≡◌, IfOk};
+ghost use Rattle.std.specs.Prelude.{◌≡◌, ℕ, IfOk};
 ghost use Rattle.answer_cache.specs.Indexes.{AreIndexes, IsIndex, top_of};
 
-use answer_log::{GROUP_COUNT, SeenLog};
+use answer_log::SeenLog;
 use std::alloc::{AllocError, Global};
 
 /// A placed node: the hash of its question, and its number.
@@ -22,8 +22,8 @@ pub(crate) struct Index {
 
 impl Index {
     /// One without nodes. Takes no memory.
-    fn empty(alloc: Global, seen: &SeenLog) -> Index
-        ensures { IsIndex seen.now.book result }
+    pub(crate) fn empty(alloc: Global, seen: &SeenLog) -> Index
+        ensures { (groups : ℕ) → IsIndex groups seen.now.book result }
     {
         Index {
             seen: seen.again(),
@@ -31,15 +31,29 @@ impl Index {
         }
     }
 
-    /// An index without nodes for each group.
-    pub(crate) fn empty_ones(alloc: Global, seen: &SeenLog) -> Result<Vec<Index>, AllocError>
-        ensures { IfOk result (λ indexes. AreIndexes seen.now.book indexes.items) }
+    /// An index without nodes for each of so many groups.
+    fn empty_ones(alloc: Global, groups: u32, seen: &SeenLog) -> Result<Vec<Index>, AllocError>
+        ensures { IfOk result (λ made. AreIndexes groups seen.now.book made.items) }
     {
-        let mut indexes = Vec::new(alloc);
-        'groups: for _group in 0..GROUP_COUNT {
-            indexes.push(Index::empty(alloc, seen))?;
+        let mut made = Vec::with_capacity(alloc, groups as usize)?;
+        'groups: for _group in 0..groups {
+            made.push(Index::empty(alloc, seen))?;
         }
-        Ok(indexes)
+        Ok(made)
+    }
+
+    /// Makes an index without nodes for each of so many groups, where there is none yet, and there
+    /// is memory.
+    pub(crate) fn make_ones(indexes: &mut Vec<Index>, groups: u32, seen: &SeenLog)
+        requires { AreIndexes groups seen.now.book indexes.old.items }
+        ensures { AreIndexes groups seen.now.book indexes.new.items }
+    {
+        if !indexes.is_empty() {
+            return;
+        }
+        if let Ok(made) = Index::empty_ones(*indexes.allocator(), groups, seen) {
+            *indexes = made;
+        }
     }
 
     /// The number of its node placed last, 0 where there is none.

@@ -23,10 +23,12 @@
 //! `StoreRefusal` says which it was, and nothing was stored then.
 //!
 //! `group` puts each question, by its name and type, into one of 64 groups, and a group has at most
-//! 128 stores. So a book never has more than 8,192. Stores do not make room for others: when groups
-//! are full, the user of a book begins a new one. A `SharedCache` hands on what lives (`carry`),
-//! and its successor begins with that. `ListCache::successor` begins with what lives of another
-//! list.
+//! 128 stores. So a book of 64 groups never has more than 8,192. A book can be of more groups: of
+//! 65,536 at most, which have 8,388,608 stores (`ListCache::with_groups`,
+//! `SharedCache::with_groups`). Stores do not make room for others: when groups are full, the user
+//! of a book begins a new one. A `SharedCache` hands on what lives (`carry`), and its successor
+//! begins with that. `ListCache::successor` begins with what lives of another list. A successor is
+//! of as many groups.
 //!
 //! `AnswerBook` is the trait of all books: each has `look`, and `lookup` comes with it. `Stores<R>`
 //! is the trait of those in which the holder of an `R` stores: in a book that threads share, a
@@ -41,10 +43,10 @@
 //! Each store in it is of one of the seats, so their own stores together are the history. A seat
 //! sees what another had seen once it has learned that one's notice. A lookup goes along the stores
 //! of its question's group that its seat has not passed yet, 128 at most. Of the others the seat
-//! has an index in memory of its own; where there is no memory to add to it, the lookup answers all
-//! the same. A store is tried 16 times at most, and it may lose each try to stores of other seats
-//! in the same group. It asks for memory before its first try, and may be made again where that is
-//! refused.
+//! has an index in memory of its own, which its first lookup makes for each group; where there is
+//! no memory for it, or to add to it, the lookup answers all the same. A store is tried 16 times at
+//! most, and it may lose each try to stores of other seats in the same group. It asks for memory
+//! before its first try, and may be made again where that is refused.
 //!
 //! ```
 //! // in the thread of the second seat
@@ -93,3 +95,4 @@ pub use seat::{
     law_stores_are_of_the_seats,
 };
 pub use shared_cache::SharedCache;
+pub use store_list::is_group_count;

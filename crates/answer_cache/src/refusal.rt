@@ -9,8 +9,9 @@ use thiserror::Error;
 /// Why no shared cache was made.
 #[derive(Clone, Copy, Debug, PartialEq, Eq, Error)]
 pub enum CacheRefusal {
-    /// The number of seats is not from 1 to 64.
-    #[error("a cache has from 1 to 64 seats")]
+    /// The number of seats is not from 1 to 64, or that of groups is no power of two from 64 to
+    /// 65,536.
+    #[error("a cache has from 1 to 64 seats, and a power of two from 64 to 65,536 of groups")]
     BadCount,
     /// Memory was refused.
     #[error("out of memory")]

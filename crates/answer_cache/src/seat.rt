@@ -26,7 +26,7 @@ impl Model for Seat {
     ghost view = { λ it. view_of it.handle it.notes };
 
     ghost invariant = { λ it. IsHandle it.handle
-        × AreIndexes it.handle.book.book it.indexes.items };
+        × AreIndexes it.handle.groups it.handle.book.book it.indexes.items };
 }
 
 impl Seat {
@@ -56,13 +56,13 @@ pub struct Notice {
 }
 
 impl Model for Notice {
-    ghost use Rattle.answer_log.specs.Logs.{history, seats_in};
+    ghost use Rattle.answer_log.specs.Logs.{groups_in, history, seats_in};
     ghost use Rattle.answer_cache.specs.Shared.{NoticeView, cache_view};
 
     ghost Value = { NoticeView };
 
     ghost view = { λ it. record {
-      cache = cache_view it.seen.book (seats_in it.seen.log);
+      cache = cache_view it.seen.book (seats_in it.seen.log) (groups_in it.seen.log);
       seen = history it.seen.log;
     } };
 }

@@ -8,11 +8,11 @@ ghost use Rattle.logbook.specs.Pages.{may_write};
 ghost use Rattle.std.specs.Arc.{arc_value};
 ghost use Rattle.std.specs.List.{All, range_with_len};
 ghost use Rattle.std.specs.Option.{option_map};
-ghost use Rattle.answer_log.specs.Groups.{group_limit, group_of, hash_of, hashed_of};
+ghost use Rattle.answer_log.specs.Groups.{group_in, group_limit, hash_of, hashed_of};
 ghost use Rattle.answer_log.specs.Handles.{AreHandles, EndsWith, IsHandle, IsSame, SeesMore, spent_of};
 ghost use Rattle.answer_log.specs.Spending.{one_try};
 ghost use Rattle.answer_log.specs.Histories.{IsFull, IsSound, cached, in_group};
-ghost use Rattle.answer_log.specs.Logs.{history, top};
+ghost use Rattle.answer_log.specs.Logs.{groups_in, history, top};
 ghost use Rattle.answer_log.specs.Rules.{node_at};
 ghost use Rattle.answer_log.specs.Steps.{HadRoom, store_by};
 ghost use Rattle.answer_log.specs.declared.store.Store.{Store};
@@ -24,7 +24,9 @@ ghost use Rattle.answer_cache.specs.Nodes.{Meets, Says};
 ghost use Rattle.answer_cache.specs.Nodes.{WhyLost, WhyNoRoom, WhyNotPut, numbers_of, store_in};
 ghost use Rattle.answer_cache.specs.Seats.{GoesOn, IsRefused, IsStored, Offer, StoresNothing};
 ghost use Rattle.answer_cache.specs.Seats.{offer_of};
-ghost use Rattle.answer_cache.specs.Shared.{Belongs, Leaves, Takes, Refuses, WantsForAnswer};
+ghost use Rattle.answer_cache.specs.Shared.{Belongs, Leaves, Takes, Refuses, RefusesGroups};
+ghost use Rattle.answer_cache.specs.Shared.{WantsForAnswer};
+ghost use Rattle.answer_cache.specs.Lists.{IsGroupCount};
 ghost use Rattle.answer_cache.specs.Shared.{cache_view, new_seat, view_of};
 ghost use Rattle.answer_log.specs.Cursors.{Ahead};
 ghost use Rattle.answer_log.specs.declared.event.Event.{Event as Noticed};
@@ -37,9 +39,10 @@ use crate::notes::Notes;
 use crate::refusal::{CacheRefusal, StoreRefusal};
 use crate::rival::{NoRival, Rival};
 use crate::seat::{Notice, Seat};
+use crate::store_list::is_group_count;
 use answer_log::{
-    ClaimedNode, Cursor, GROUP_LIMIT, Handle, Handles, Log, MOST_SEATS, NewStore, Pen, SeenLog,
-    group_of_hash, hash, law_log_keeps_its_rule, law_placed_is_named, seat_and_place,
+    ClaimedNode, Cursor, GROUP_LIMIT, Handle, Handles, LEAST_GROUPS, Log, MOST_SEATS, NewStore,
+    Pen, SeenLog, group_among, hash, law_log_keeps_its_rule, law_placed_is_named, seat_and_place,
 };
 use boxcar::Pushed;
 use boxcar::tag::Tag;
@@ -72,9 +75,9 @@ impl Model for SharedCache {
 
     ghost coded = { cache_coded };
 
-    ghost view = { λ it. cache_view it.log (length it.shelves.items) };
+    ghost view = { λ it. cache_view it.log.book (length it.shelves.items) it.log.groups };
 
-    ghost invariant = { λ it. All (λ shelf. shelf.tag ≡ numbers_of it.log) it.shelves.items };
+    ghost invariant = { λ it. All (λ shelf. shelf.tag ≡ numbers_of it.log.book) it.shelves.items };
 }
 
 /// What is to be stored.
@@ -108,36 +111,59 @@ fn new_seats(alloc: Global, seats: usize, handles: &mut Handles) -> Result<Vec<S
     requires handles { AreHandles handles.old }
     requires first { (handles.old.next ≡ 0) × (handles.old.seats ≡ seats) }
     ensures { IfOk result (λ made. made.items
-        ≡ map (new_seat (cache_view handles.old.seen.book seats)) (range_with_len 0 seats)) }
+        ≡ map (new_seat (cache_view handles.old.seen.book seats handles.old.groups))
+        (range_with_len 0 seats)) }
 {
     let mut made = Vec::new(alloc);
     'seats: for _seat in 0..seats {
-        let indexes = Index::empty_ones(alloc, &handles.seen)?;
         made.push(Seat {
             handle: handles.deal(),
             notes: Notes::none(),
-            indexes,
+            indexes: Vec::new(alloc),
         })?;
     }
     Ok(made)
 }
 
 impl SharedCache {
-    /// A cache in which nothing is stored, and its seats, numbered from 0.
+    /// A cache of 64 groups in which nothing is stored, and its seats, numbered from 0.
     ///
     /// # Errors
     /// `BadCount` outside 1 to 64 seats, and then `Memory`.
     pub fn new(alloc: Global, seats: usize) -> Result<(SharedCache, Vec<Seat>), CacheRefusal>
         ensures count { IfOk result (λ made. (0 < seats) × (seats ≤ 64) × (made.0.seats ≡ seats)) }
+        ensures groups { IfOk result (λ made. made.0.groups ≡ 64) }
         ensures seats { IfOk result
             (λ made. made.1.items ≡ map (new_seat made.0) (range_with_len 0 seats)) }
         ensures belong { IfOk result (λ made. All (Belongs made.0) made.1.items) }
         ensures refused { IfErr result (Refuses seats) }
     {
-        if seats == 0 || seats as u64 > MOST_SEATS {
+        SharedCache::with_groups(alloc, seats, LEAST_GROUPS)
+    }
+
+    /// A cache of so many groups in which nothing is stored, and its seats, numbered from 0. Each
+    /// group has a head, of 8 octets. A seat takes memory for its groups when it first looks up a
+    /// question, about 24 octets for each.
+    ///
+    /// # Errors
+    /// `BadCount` outside 1 to 64 seats, and where the number of groups is no power of two from 64
+    /// to 65,536; and then `Memory`.
+    pub fn with_groups(
+        alloc: Global,
+        seats: usize,
+        groups: u32,
+    ) -> Result<(SharedCache, Vec<Seat>), CacheRefusal>
+        ensures count { IfOk result (λ made. (0 < seats) × (seats ≤ 64) × (made.0.seats ≡ seats)) }
+        ensures groups { IfOk result (λ made. IsGroupCount groups × (made.0.groups ≡ groups)) }
+        ensures seats { IfOk result
+            (λ made. made.1.items ≡ map (new_seat made.0) (range_with_len 0 seats)) }
+        ensures belong { IfOk result (λ made. All (Belongs made.0) made.1.items) }
+        ensures refused { IfErr result (RefusesGroups seats groups) }
+    {
+        if seats == 0 || seats as u64 > MOST_SEATS || !is_group_count(groups) {
             return Err(CacheRefusal::BadCount);
         }
-        let Ok((log, mut handles)) = Log::open(alloc, seats as u64) else {
+        let Ok((log, mut handles)) = Log::open(alloc, seats as u64, groups) else {
             return Err(CacheRefusal::Memory);
         };
         let Ok(shelves) = empty_shelves(alloc, seats, &handles.seen) else {
@@ -248,14 +274,16 @@ impl SharedCache {
         requires hash { asked.now.hash ≡ hash_of (hashed_of asked.now.question.now) }
         requires books { (cursor.old.seen.book ≡ self.now.book)
             × (handle.old.book.book ≡ self.now.book) }
+        requires groups { (groups_in cursor.old.seen.log ≡ self.now.groups)
+            × (0 < self.now.groups) }
         requires handle { IsHandle handle.old }
-        requires index { IsIndex self.now.book index.old }
+        requires index { IsIndex self.now.groups self.now.book index.old }
         requires behind { IsPrefix index.old.seen.log cursor.old.seen.log }
         requires ahead { (left : List Store) × Ahead cursor.old left × (length left ≤ links) }
         ensures same { IsSame handle.old handle.new }
         ensures book { cursor.new.seen.book ≡ self.now.book }
         ensures later { IsPrefix cursor.old.seen.log cursor.new.seen.log }
-        ensures index { IsIndex self.now.book index.new }
+        ensures index { IsIndex self.now.groups self.now.book index.new }
         ensures behind { IsPrefix index.new.seen.log cursor.new.seen.log }
         ensures last { IfOk result (λ found. (left : List Store) → Ahead cursor.old left
             → IsLastOf asked.now.question.now left (option_map (λ node. node.now) found)) }
@@ -304,14 +332,16 @@ impl SharedCache {
         requires hash { asked.now.hash ≡ hash_of (hashed_of asked.now.question.now) }
         requires books { (cursor.old.seen.book ≡ self.now.book)
             × (handle.old.book.book ≡ self.now.book) }
+        requires groups { (groups_in cursor.old.seen.log ≡ self.now.groups)
+            × (0 < self.now.groups) }
         requires handle { IsHandle handle.old }
-        requires index { IsIndex self.now.book index.old }
+        requires index { IsIndex self.now.groups self.now.book index.old }
         requires behind { IsPrefix index.old.seen.log cursor.old.seen.log }
         requires ahead { (left : List Store) × Ahead cursor.old left × (length left ≤ links) }
         ensures same { IsSame handle.old handle.new }
         ensures book { cursor.new.seen.book ≡ self.now.book }
         ensures later { IsPrefix cursor.old.seen.log cursor.new.seen.log }
-        ensures index { IsIndex self.now.book index.new }
+        ensures index { IsIndex self.now.groups self.now.book index.new }
         ensures behind { IsPrefix index.new.seen.log cursor.new.seen.log }
         ensures last { IfOk result (λ found. (left : List Store) → Ahead cursor.old left
             → IsLastOf asked.now.question.now left (option_map (λ node. node.now) found)) }
@@ -327,22 +357,25 @@ impl SharedCache {
     }
 
     /// The node of the last store of a question, as the seat sees the history now: one load of the
-    /// head of its group, and of the link of each node that the seat has not passed yet.
+    /// head of its group, and of the link of each node that the index does not tell.
     #[inline(always)]
-    fn last_of(
+    fn last_by(
         &self,
         handle: &mut Handle,
-        indexes: &mut Vec<Index>,
+        index: &mut Index,
         asked: &Hashed<'_>,
+        group: u32,
     ) -> Result<Option<&Node>, AllocError>
+        requires group { group ≡ group_in self.now.groups asked.now.question.now }
         requires hash { asked.now.hash ≡ hash_of (hashed_of asked.now.question.now) }
-        requires book { handle.old.book.book ≡ self.now.book }
+        requires book { (handle.old.book.book ≡ self.now.book)
+            × (handle.old.groups ≡ self.now.groups) }
         requires handle { IsHandle handle.old }
-        requires indexes { AreIndexes self.now.book indexes.old.items }
+        requires index { IsIndex self.now.groups self.now.book index.old }
         ensures holds { Holds self.now.book handle.old handle.new }
         ensures seen { SeesMore handle.old.number handle.old.book.log handle.new.book.log }
         ensures node_count { handle.new.node_count ≡ handle.old.node_count }
-        ensures indexes { AreIndexes self.now.book indexes.new.items }
+        ensures index { IsIndex self.now.groups self.now.book index.new }
         ensures last { IfOk result
             (λ found. IsLastOf asked.now.question.now (history handle.new.book.log)
             (option_map (λ node. node.now) found)) }
@@ -351,11 +384,44 @@ impl SharedCache {
             (λ _. (spent_of handle.old).missed < (spent_of handle.new).missed) }
     {
         law_same_questions_are_equal();
-        let group = group_of_hash(asked.hash);
-        let index = &mut indexes[usize::from(group)];
         let mut cursor = self.log.cursor_after(handle, &index.seen, group);
         law_log_keeps_its_rule(&handle.book);
         self.last_told(&mut cursor, handle, index, asked, GROUP_LIMIT)
+    }
+
+    /// The node of the last store of a question, as the seat sees the history now. The seat passes
+    /// each node once, unless memory was refused for what it remembers.
+    #[inline(always)]
+    fn last_of(
+        &self,
+        handle: &mut Handle,
+        indexes: &mut Vec<Index>,
+        asked: &Hashed<'_>,
+    ) -> Result<Option<&Node>, AllocError>
+        requires hash { asked.now.hash ≡ hash_of (hashed_of asked.now.question.now) }
+        requires book { (handle.old.book.book ≡ self.now.book)
+            × (handle.old.groups ≡ self.now.groups) }
+        requires handle { IsHandle handle.old }
+        requires indexes { AreIndexes self.now.groups self.now.book indexes.old.items }
+        ensures holds { Holds self.now.book handle.old handle.new }
+        ensures seen { SeesMore handle.old.number handle.old.book.log handle.new.book.log }
+        ensures node_count { handle.new.node_count ≡ handle.old.node_count }
+        ensures indexes { AreIndexes self.now.groups self.now.book indexes.new.items }
+        ensures last { IfOk result
+            (λ found. IsLastOf asked.now.question.now (history handle.new.book.log)
+            (option_map (λ node. node.now) found)) }
+        ensures costs { Costs (spent_of handle.old) (spent_of handle.new) group_limit 0 }
+        ensures missed { IfErr result
+            (λ _. (spent_of handle.old).missed < (spent_of handle.new).missed) }
+    {
+        let group = group_among(asked.hash, handle.groups);
+        Index::make_ones(indexes, handle.groups, &handle.book);
+        if group as usize >= indexes.len() {
+            let mut index = Index::empty(*indexes.allocator(), &handle.book);
+            return self.last_by(handle, &mut index, asked, group);
+        }
+        let index = &mut indexes[group as usize];
+        self.last_by(handle, index, asked, group)
     }
 
     /// Whether as many stores are ahead of a cursor as a group can have.
@@ -384,18 +450,21 @@ impl SharedCache {
     fn room(&self, handle: &mut Handle, asked: &Hashed<'_>) -> Result<u64, StoreRefusal>
         requires hash { asked.now.hash ≡ hash_of (hashed_of asked.now.question.now) }
         requires handle { IsHandle handle.old }
-        requires book { handle.old.book.book ≡ self.now.book }
+        requires book { (handle.old.book.book ≡ self.now.book)
+            × (handle.old.groups ≡ self.now.groups) }
         ensures holds { Holds self.now.book handle.old handle.new }
         ensures seen { SeesMore handle.old.number handle.old.book.log handle.new.book.log }
         ensures node_count { handle.new.node_count ≡ handle.old.node_count }
         ensures costs { Costs (spent_of handle.old) (spent_of handle.new) group_limit 0 }
         ensures room { IfOk result
-            (λ old. (old ≡ top (group_of asked.now.question.now) handle.new.book.log)
-            × (IsFull (history handle.new.book.log) asked.now.question.now → ⊥)) }
-        ensures full { IfErr result (WhyNoRoom asked.now.question.now (history handle.new.book.log)
-            (spent_of handle.old) (spent_of handle.new)) }
+            (λ old. (old ≡ top self.now.groups (group_in self.now.groups asked.now.question.now)
+            handle.new.book.log)
+            × (IsFull self.now.groups (history handle.new.book.log) asked.now.question.now → ⊥)) }
+        ensures full { IfErr result (WhyNoRoom self.now.groups asked.now.question.now
+            (history handle.new.book.log) (spent_of handle.old) (spent_of handle.new)) }
     {
-        let mut cursor = self.log.cursor(handle, group_of_hash(asked.hash));
+        let group = group_among(asked.hash, handle.groups);
+        let mut cursor = self.log.cursor(handle, group);
         let old = cursor.next;
         if self.is_full(&mut cursor, handle)? {
             return Err(StoreRefusal::GenerationFull);
@@ -414,7 +483,8 @@ impl SharedCache {
         wanted: &Wanted<'_>,
     ) -> Result<(Pushed<Node, Global, Shelved>, Pen), ShelfRefusal>
         requires handle { IsHandle handle.old }
-        requires book { handle.old.book.book ≡ self.now.book }
+        requires book { (handle.old.book.book ≡ self.now.book)
+            × (handle.old.groups ≡ self.now.groups) }
         requires shelf { shelf.now.tag ≡ numbers_of self.now.book }
         requires place { handle.old.node_count ≤ place }
         requires hash { wanted.now.hash ≡ hash_of (hashed_of wanted.now.question.now) }
@@ -424,8 +494,8 @@ impl SharedCache {
         ensures leaves { IfErr result (LeavesPlaces handle.old handle.new) }
         ensures shown { IfOk result (λ ready. Shows shelf.now ready.0) }
         ensures ready { IfOk result (λ ready. (ready.1.book ≡ self.now.book)
-            × IsReady self.now.book handle.new.book.log handle.old.number ready.0.value
-            ready.1.nib) }
+            × IsReady self.now.groups self.now.book handle.new.book.log
+            handle.old.number ready.0.value ready.1.nib) }
         ensures numbered { IfOk result
             (λ ready. ready.0.value.node ≡ node_at handle.old.number place) }
         ensures made { IfOk result
@@ -470,7 +540,8 @@ impl SharedCache {
         wanted: &Wanted<'_>,
     ) -> Result<(Pushed<Node, Global, Shelved>, Pen), ShelfRefusal>
         requires handle { IsHandle handle.old }
-        requires book { handle.old.book.book ≡ self.now.book }
+        requires book { (handle.old.book.book ≡ self.now.book)
+            × (handle.old.groups ≡ self.now.groups) }
         requires shelf { shelf.now.tag ≡ numbers_of self.now.book }
         requires hash { wanted.now.hash ≡ hash_of (hashed_of wanted.now.question.now) }
         ensures holds { Holds self.now.book handle.old handle.new }
@@ -479,8 +550,8 @@ impl SharedCache {
         ensures leaves { IfErr result (LeavesPlaces handle.old handle.new) }
         ensures shown { IfOk result (λ ready. Shows shelf.now ready.0) }
         ensures ready { IfOk result (λ ready. (ready.1.book ≡ self.now.book)
-            × IsReady self.now.book handle.new.book.log handle.old.number ready.0.value
-            ready.1.nib) }
+            × IsReady self.now.groups self.now.book handle.new.book.log
+            handle.old.number ready.0.value ready.1.nib) }
         ensures numbered { IfOk result
             (λ ready. ready.0.value.node ≡ node_at handle.old.number ready.0.index) }
         ensures made { IfOk result
@@ -512,11 +583,13 @@ impl SharedCache {
     ) -> bool
         requires handle { IsHandle handle.old }
         requires book { (handle.old.book.book ≡ self.now.book) × (pen.old.book ≡ self.now.book) }
-        requires ready { IsReady self.now.book handle.old.book.log handle.old.number
-            node.now pen.old.nib }
+        requires groups { handle.old.groups ≡ self.now.groups }
+        requires ready { IsReady self.now.groups self.now.book handle.old.book.log
+            handle.old.number node.now pen.old.nib }
         requires sound { IsSound (store_in handle.old.number node.now) }
         requires tagged { node.now.tag ≡ hash_of (hashed_of node.now.question) }
-        requires room { HadRoom handle.old.book.log old node.now.question }
+        requires room { HadRoom self.now.groups handle.old.book.log old
+            node.now.question }
         ensures holds { Holds self.now.book handle.old handle.new }
         ensures spent { spent_of handle.new ≡ one_try (spent_of handle.old) }
         ensures node_count { handle.new.node_count ≡ handle.old.node_count }
@@ -526,11 +599,12 @@ impl SharedCache {
             (SeesMore handle.old.number handle.old.book.log handle.new.book.log) }
         ensures lost { MatchBool result (Unit {0})
             ((seen : List Noticed) → IsPrefix seen handle.old.book.log
-            → top (group_of node.now.question) seen ≡ old
+            → top self.now.groups (group_in self.now.groups node.now.question) seen ≡ old
             → length (history seen) < length (history handle.new.book.log)) }
         ensures again { MatchBool result (Unit {0})
             ((pen.new.book ≡ self.now.book)
-            × IsReady self.now.book handle.new.book.log handle.old.number node.now pen.new.nib) }
+            × IsReady self.now.groups self.now.book handle.new.book.log
+            handle.old.number node.now pen.new.nib) }
     {
         rival.between(number);
         node.link.store(pen, old);
@@ -541,7 +615,7 @@ impl SharedCache {
             answer: &node.answer,
             moment: node.moment,
         };
-        let group = group_of_hash(node.tag);
+        let group = group_among(node.tag, handle.groups);
         self.log
             .place(handle, pen, old, &new_store, group, &node.link)
     }
@@ -557,11 +631,13 @@ impl SharedCache {
     ) -> Result<(), StoreRefusal>
         requires handle { IsHandle handle.old }
         requires book { (handle.old.book.book ≡ self.now.book) × (pen.book ≡ self.now.book) }
-        requires ready { IsReady self.now.book handle.old.book.log handle.old.number node.now
-            pen.nib }
+        requires groups { handle.old.groups ≡ self.now.groups }
+        requires ready { IsReady self.now.groups self.now.book handle.old.book.log
+            handle.old.number node.now pen.nib }
         requires sound { IsSound (store_in handle.old.number node.now) }
         requires tagged { node.now.tag ≡ hash_of (hashed_of node.now.question) }
-        requires room { HadRoom handle.old.book.log old node.now.question }
+        requires room { HadRoom self.now.groups handle.old.book.log old
+            node.now.question }
         ensures holds { Holds self.now.book handle.old handle.new }
         ensures costs { Costs (spent_of handle.old) (spent_of handle.new) (15 * group_limit) 16 }
         ensures tried { (spent_of handle.old).tries < (spent_of handle.new).tries }
@@ -570,8 +646,9 @@ impl SharedCache {
             (history handle.new.book.log))
             (λ _. SeesMore handle.old.number handle.old.book.log handle.new.book.log) }
         ensures lost { IfErr result (λ refusal. (seen : List Noticed)
-            → IsPrefix seen handle.old.book.log → top (group_of node.now.question) seen ≡ old
-            → WhyLost node.now.question (history seen) (history handle.new.book.log)
+            → IsPrefix seen handle.old.book.log
+            → top self.now.groups (group_in self.now.groups node.now.question) seen ≡ old
+            → WhyLost self.now.groups node.now.question (history seen) (history handle.new.book.log)
             (spent_of handle.old) (spent_of handle.new) refusal) }
     {
         if self.attempt(handle, node, &mut pen, old, 1, rival) {
@@ -599,7 +676,8 @@ impl SharedCache {
         rival: &mut V,
     ) -> Result<(), StoreRefusal>
         requires handle { IsHandle handle.old }
-        requires book { handle.old.book.book ≡ self.now.book }
+        requires book { (handle.old.book.book ≡ self.now.book)
+            × (handle.old.groups ≡ self.now.groups) }
         requires shelf { handle.old.number < self.now.seats }
         requires sound { IsSound
             (store_by handle.old.number wanted.now.question.now
@@ -613,7 +691,7 @@ impl SharedCache {
             (history handle.new.book.log))
             (λ _. SeesMore handle.old.number handle.old.book.log handle.new.book.log) }
         ensures lost { IfErr result
-            (WhyNotPut wanted.now.question.now (history handle.old.book.log)
+            (WhyNotPut self.now.groups wanted.now.question.now (history handle.old.book.log)
             (history handle.new.book.log)) }
         ensures leaves { IfErr result (λ refusal. (before after : List Offer)
             → Leaves wanted.now.question.now (view_of handle.old before) (view_of handle.new after)

@@ -9,7 +9,6 @@ ghost use Rattle.answer_cache.specs.Nodes.{Holds};
 ghost use Rattle.answer_cache.specs.Shared.{Belongs, Refuses, cache_view};
 
 use crate::carried::Carried;
-use crate::index::Index;
 use crate::notes::Notes;
 use crate::refusal::CacheRefusal;
 use crate::rival::NoRival;
@@ -28,12 +27,14 @@ impl SharedCache {
         carried: &Carried,
     ) -> Result<(), AllocError>
         requires handle { IsHandle handle.old }
-        requires book { handle.old.book.book ≡ self.now.book }
+        requires book { (handle.old.book.book ≡ self.now.book)
+            × (handle.old.groups ≡ self.now.groups) }
         requires first { (handle.old.number ≡ 0) × (mine (history handle.old.book.log) 0 ≡ []) }
         requires shelf { 0 < self.now.seats }
+        requires groups { carried.now.groups ≡ self.now.groups }
         ensures holds { OnOk result (Holds self.now.book handle.old handle.new) }
         ensures own { OnOk result
-            (mine (history handle.new.book.log) 0 ≡ carried_stores carried.now) }
+            (mine (history handle.new.book.log) 0 ≡ carried_stores carried.now.offers) }
     {
         'entries: for at in 0..carried.entries.len() {
             let entry = &carried.entries[at];
@@ -64,37 +65,37 @@ impl SharedCache {
         requires here { (handles.old.seen.book ≡ self.now.book)
             × (first.book.book ≡ self.now.book)
             × (first.book.names ≡ handles.old.seen.names) }
+        requires groups { (handles.old.groups ≡ self.now.groups)
+            × (first.groups ≡ self.now.groups) × (carried.now.groups ≡ self.now.groups) }
         requires first { IsHandle first × (first.number ≡ 0) × (first.seats ≡ seats) }
-        requires own { mine (history first.book.log) 0 ≡ carried_stores carried.now }
+        requires own { mine (history first.book.log) 0 ≡ carried_stores carried.now.offers }
         ensures seats { IfOk result (λ made. map (λ seat. seat.seat) made.items
             ≡ map (seat_after carried.now) (range_with_len 0 seats)) }
         ensures belong { IfOk result
-            (λ made. All (Belongs (cache_view self.now.book seats)) made.items) }
+            (λ made. All (Belongs (cache_view self.now.book seats self.now.groups)) made.items) }
     {
         let told = first.book.again();
         law_log_keeps_its_rule(&told);
         let mut made = Vec::new(alloc);
-        let indexes = Index::empty_ones(alloc, &told)?;
         made.push(Seat {
             handle: first,
             notes: Notes::none(),
-            indexes,
+            indexes: Vec::new(alloc),
         })?;
         'seats: for _seat in 1..seats {
-            let indexes = Index::empty_ones(alloc, &told)?;
             let mut handle = handles.deal();
             self.log.meet(&mut handle, &told);
             made.push(Seat {
                 handle,
                 notes: Notes::none(),
-                indexes,
+                indexes: Vec::new(alloc),
             })?;
         }
         Ok(made)
     }
 
     /// A cache whose history begins with what another one hands on, and its seats, numbered from 0.
-    /// What is carried counts as stores of seat 0.
+    /// What is carried counts as stores of seat 0. The cache has as many groups as that one.
     ///
     /// # Errors
     /// `BadCount` outside 1 to 64 seats, and then `Memory`.
@@ -105,6 +106,7 @@ impl SharedCache {
         seats: usize,
     ) -> Result<(SharedCache, Vec<Seat>), CacheRefusal>
         ensures count { IfOk result (λ made. (0 < seats) × (seats ≤ 64) × (made.0.seats ≡ seats)) }
+        ensures groups { IfOk result (λ made. made.0.groups ≡ carried.now.groups) }
         ensures seats { IfOk result
             (λ made. map (λ seat. seat.seat) made.1.items
             ≡ map (seat_after carried.now) (range_with_len 0 seats)) }
@@ -114,7 +116,7 @@ impl SharedCache {
         if seats == 0 || seats as u64 > MOST_SEATS {
             return Err(CacheRefusal::BadCount);
         }
-        let Ok((log, mut handles)) = Log::open(alloc, seats as u64) else {
+        let Ok((log, mut handles)) = Log::open(alloc, seats as u64, carried.groups) else {
             return Err(CacheRefusal::Memory);
         };
         let Ok(shelves) = empty_shelves(alloc, seats, &handles.seen) else {

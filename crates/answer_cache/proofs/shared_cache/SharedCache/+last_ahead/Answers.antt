@@ -1,4 +1,4 @@
-use Rattle.std.proofs.Common.{[], List, None, ap, arith, is_ok, refl, subst, sym, ◌∙◌}
+use Rattle.std.proofs.Common.{ℕ, [], List, None, ap, arith, is_ok, refl, subst, sym, ◌∙◌}
 use Rattle.std.proofs.lemmas.List.{append-nil, nil_from_length}
 use Rattle.std.specs.List.{last_or}
 use Rattle.answer_log.specs.Handles.{spent_of}
@@ -9,6 +9,7 @@ use Rattle.answer_cache.specs.Indexes.{IsIndex, Tells, TellsAll}
 use Rattle.answer_cache.specs.Nodes.{store_in}
 use Rattle.answer_cache.specs.declared.index.Index.{Index}
 use Rattle.answer_cache.specs.declared.index.IndexEntry.{IndexEntry}
+use Rattle.answer_log.proofs.Logs.{begun-groups, groups-prefix}
 use Rattle.answer_cache.proofs.Costing as costs
 use Rattle.answer_cache.proofs.Indexing.{ahead-one, ahead-told, front_trans, index-pushed, last-on, ok-found, shorter, tells-later}
 use Rattle.answer_cache.proofs.Lookups.{last-before, last-here}
@@ -26,6 +27,9 @@ last_ahead-requires t c =
     let step = c.in_ok-node.ensures in
     let met = (rw c.in-Some-2.is at step.met) here.0 here.1 in
     let store = store_in met.1 c.in-Some-2.node.now in
+    let groups = c.requires.groups in
+    let on = groups-prefix c.args.cursor.now.seen.log c.step.new.cursor.seen.log step.later
+    (begun-groups c.args.cursor.now.seen.log (omega arith)) ∙ groups.0 in
     let size = c.decreases in
     let less = c.in-Some.ensures in (
       omega arith,
@@ -34,12 +38,15 @@ last_ahead-requires t c =
         (
           (step.book, ap (λ b. b.book) step.same.book ∙ c.requires.books.1),
           (
-            step.same.handle,
+            (on, groups.1),
             (
-              c.requires.index,
+              step.same.handle,
               (
-                front_trans c.args.index.now.seen.log c.args.cursor.now.seen.log c.step.new.cursor.seen.log c.requires.behind step.later,
-                (met.0, met.3, shorter here.0 met.0 store c.args.links c.in-Some.links met.2 here.2 (omega arith)),
+                c.requires.index,
+                (
+                  front_trans c.args.index.now.seen.log c.args.cursor.now.seen.log c.step.new.cursor.seen.log c.requires.behind step.later,
+                  (met.0, met.3, shorter here.0 met.0 store c.args.links c.in-Some.links met.2 here.2 (omega arith)),
+                ),
               ),
             ),
           ),
@@ -50,6 +57,7 @@ last_ahead-requires t c =
 pub returns-clause-index : goal.returns-clause-index
 returns-clause-index t c =
     let book = c.args.self.now.book in
+    let groups : ℕ = c.args.self.now.groups in
     let now = c.last_ahead.new in
     let older = c.in_ok-older.ensures in
     let here = c.requires.ahead in
@@ -57,13 +65,18 @@ returns-clause-index t c =
     let step = c.in_ok-node.ensures in
     let met = (rw c.in-Some-2.is at step.met) here.0 here.1 in
     let store = store_in met.1 node in
-    let I : Index → Type 0 = λ it. IsIndex book it in
+    let some = c.requires.groups in
+    let first = begun-groups c.args.cursor.now.seen.log (omega arith) in
+    let on = groups-prefix c.args.cursor.now.seen.log c.step.new.cursor.seen.log step.later first ∙ some.0 in
+    let later = groups-prefix c.step.new.cursor.seen.log now.cursor.seen.log older.later
+    (begun-groups c.step.new.cursor.seen.log (omega (arith, on))) ∙ on in
+    let I : Index → Type 0 = λ it. IsIndex groups book it in
     elim c.if-top-before.branch [
       | then-top-before w ↦
           (let entry : IndexEntry = record { hash = node.tag; node = node.node } in
           let tells : TellsAll now.index.seen.log now.index.entries.items met.0 =
-          ahead-told book c.step.new.cursor now.index now.cursor.seen.log met.0 c.law_log_keeps_its_rule-2.ensures older.later older.behind
-          older.index met.3 (sym w.if-top-before.true ∙ c.top-2.ensures) in
+          ahead-told groups book c.step.new.cursor now.index now.cursor.seen.log met.0 c.law_log_keeps_its_rule-2.ensures older.later
+          older.behind later on older.index met.3 (sym w.if-top-before.true ∙ c.top-2.ensures) in
           let grown : Index = record { seen = w.again.result; entries = w.push.new.self } in
           let same = ap (λ b. b.log) w.again.ensures in
           let L : List Event → Type 0 = λ log. IsPrefix now.index.seen.log log in
@@ -72,8 +85,8 @@ returns-clause-index t c =
           let there : Tells now.cursor.seen.log entry store = tells-later c.step.new.cursor.seen.log now.cursor.seen.log entry store
           older.later
           (record { placed = met.4; hash = rw c.in-Some-2.is at step.tagged }) in
-          subst I (sym w.index-is) (index-pushed book now.index grown c.args.cursor.now met.0 here.0 entry store (is_ok w.push.result)
-          w.push.ensures.items older.index (ap (λ b. b.book) w.again.ensures ∙ older.book) (subst L (sym same) older.behind)
+          subst I (sym w.index-is) (index-pushed groups book now.index grown c.args.cursor.now met.0 here.0 entry store (is_ok w.push.result)
+          w.push.ensures.items older.index some.0 (ap (λ b. b.book) w.again.ensures ∙ older.book) (subst L (sym same) older.behind)
           (subst K (sym same) (front_trans c.args.cursor.now.seen.log c.step.new.cursor.seen.log now.cursor.seen.log step.later
           older.later))
           tells (subst T (sym same) there) met.2 here.1 (sym (rw c.in-Some-2.is at step.number))))
@@ -109,7 +122,8 @@ returns-then-cursor-top-clause-last t c =
     let a = c.args in
     let log = a.cursor.now.seen.log in
     ok-found c.last_in.result (λ found it left ahead. it left
-    (ahead-told a.self.now.book a.cursor.now a.index.now log left c.law_log_keeps_its_rule.ensures ([], append-nil log) c.requires.behind
+    (ahead-told a.self.now.groups a.self.now.book a.cursor.now a.index.now log left c.law_log_keeps_its_rule.ensures
+    ([], append-nil log) c.requires.behind c.requires.groups.0 c.requires.groups.0
     c.requires.index ahead (c.if-cursor-top.true ∙ c.top.ensures))) c.last_in.ensures.last
 
 pub returns-then-cursor-top-clause-costs : goal.returns-then-cursor-top-clause-costs

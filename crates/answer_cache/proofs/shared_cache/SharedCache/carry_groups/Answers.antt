@@ -14,11 +14,12 @@ pub groups-init : goal.groups-init
 groups-init c =
     let h = c.args.handle.now in
     let C : List Entry → Type 0 = λ entries.
-    IsCarriedOf 0 (history h.book.log) (history h.book.log) c.args.now (offers_in entries) in record {
-      holds = record { handle = c.requires.handle; number = refl; seats = refl; same = c.requires.book; names = refl };
+    IsCarriedOf c.args.self.now.groups 0 (history h.book.log) (history h.book.log) c.args.now (offers_in entries) in record {
+      holds = record { handle = c.requires.handle; number = refl; seats = refl; groups = refl; same = c.requires.book.0; names = refl };
       seen = sees-same h.number h.book.log;
       node_count = refl;
-      carried = subst C (sym c.new-entries.ensures.items) (carried-none (history h.book.log) (history h.book.log) c.args.now);
+      carried = subst C (sym c.new-entries.ensures.items)
+          (carried-none c.args.self.now.groups (history h.book.log) (history h.book.log) c.args.now);
       costs = costs.free (spent_of h);
     }
 
@@ -42,7 +43,7 @@ pub returns-in_err-carry_group-clause-costs : goal.returns-in_err-carry_group-cl
 returns-in_err-carry_group-clause-costs c =
     let g = c.groups.group in
     let test = c.groups-test.true in
-    costs.within _ _ (g * group_limit + group_limit) (64 * group_limit) 0 0 (omega arith) (omega arith)
+    costs.within _ _ (g * group_limit + group_limit) (c.args.self.now.groups * group_limit) 0 0 (omega arith) (omega arith)
     (costs.both _ (spent_of c.groups.handle) _ (g * group_limit) group_limit 0 0 c.groups.invariant.costs
     c.in_err-carry_group.ensures.costs)
 
@@ -64,13 +65,15 @@ groups-preserved c =
     let its = c.in_ok-carry_group.ensures in
     let S : ℕ → Type 0 = λ n. SeesMore n mid.book.log new.book.log in
     let seen = subst S i.holds.number its.seen in
-    let C : List Offer → Type 0 = λ offers. IsCarriedOf (g + 1) (history h.book.log) (history new.book.log) c.args.now offers in
+    let C : List Offer → Type 0 = λ offers.
+    IsCarriedOf c.args.self.now.groups (g + 1) (history h.book.log) (history new.book.log) c.args.now offers in
     record {
       holds = holds-on c.args.self.now.book h mid new i.holds its.holds;
       seen = sees-trans h.number h.book.log mid.book.log new.book.log i.seen seen;
       node_count = its.node_count ∙ i.node_count;
       carried = subst C (sym its.added)
-          (carried-more g (history h.book.log) (history mid.book.log) (history new.book.log) c.args.now (offers_in c.groups.entries.items)
+          (carried-more c.args.self.now.groups g (history h.book.log) (history mid.book.log) (history new.book.log) c.args.now
+          (offers_in c.groups.entries.items)
           i.seen.stores its.seen.stores i.carried);
       costs = costs.within _ _ (g * group_limit + group_limit) ((g + 1) * group_limit) 0 0 (omega arith) (omega arith)
           (costs.both _ (spent_of mid) _ (g * group_limit) group_limit 0 0 i.costs its.costs);
@@ -81,12 +84,14 @@ returns-clause-carried c =
     let h = c.args.handle.now in
     let past = c.groups-test.false in
     let C : ℕ → Type 0 = λ n.
-    IsCarriedOf n (history h.book.log) (history c.groups.handle.book.log) c.args.now (offers_in c.groups.entries.items) in
-    let last : c.groups.group ≡ 64 = omega arith in
+    IsCarriedOf c.args.self.now.groups n (history h.book.log) (history c.groups.handle.book.log) c.args.now
+    (offers_in c.groups.entries.items) in
+    let last : c.groups.group ≡ c.args.self.now.groups = omega arith in
     subst C last c.groups.invariant.carried
 
 pub returns-clause-costs : goal.returns-clause-costs
 returns-clause-costs c =
     let past = c.groups-test.false in
-    let last : c.groups.group ≡ 64 = omega arith in
-    costs.within _ _ (c.groups.group * group_limit) (64 * group_limit) 0 0 (omega arith) (omega arith) c.groups.invariant.costs
+    let last : c.groups.group ≡ c.args.self.now.groups = omega arith in
+    costs.within _ _ (c.groups.group * group_limit) (c.args.self.now.groups * group_limit) 0 0 (omega arith) (omega arith)
+    c.groups.invariant.costs

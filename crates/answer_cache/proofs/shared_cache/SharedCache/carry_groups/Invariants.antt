@@ -11,6 +11,6 @@ invariant-groups l = record {
   holds : Holds l.self.book l.fn.handle l.handle;
   seen : SeesMore l.fn.handle.number l.fn.handle.book.log l.handle.book.log;
   node_count : l.handle.node_count ≡ l.fn.handle.node_count;
-  carried : IsCarriedOf l.group (history l.fn.handle.book.log) (history l.handle.book.log) l.now (offers_in l.entries.items);
+  carried : IsCarriedOf l.self.groups l.group (history l.fn.handle.book.log) (history l.handle.book.log) l.now (offers_in l.entries.items);
   costs : Costs (spent_of l.fn.handle) (spent_of l.handle) (l.group * group_limit) 0;
 }

@@ -14,10 +14,10 @@ pub tries-init : goal.tries-init
 tries-init g c =
     let t = c.attempt.new in
     let it = c.attempt.ensures in
-    let R : ℕ → Type 0 = λ n. IsReady c.args.self.now.book t.handle.book.log n c.args.node.now t.pen.nib in record {
+    let R : ℕ → Type 0 = λ n. IsReady c.args.self.now.groups c.args.self.now.book t.handle.book.log n c.args.node.now t.pen.nib in record {
       least = omega arith;
       handle = it.holds.handle;
-      number = (it.holds.number, it.holds.seats);
+      number = (it.holds.number, it.holds.seats, it.holds.groups);
       book = (it.holds.same, c.if-attempt.ensures.again.0);
       names = it.holds.names;
       ready = subst R (sym it.holds.number) c.if-attempt.ensures.again.1;
@@ -40,10 +40,10 @@ pub attempt-requires-in-tries-clause-ready : goal.attempt-requires-in-tries-clau
 attempt-requires-in-tries-clause-ready g c =
     let i = c.tries.invariant in
     let k = c.room.new.handle in
-    let R : ℕ → Type 0 = λ n. IsReady c.args.self.now.book k.book.log n c.args.node.now c.tries.pen.nib in
+    let R : ℕ → Type 0 = λ n. IsReady c.args.self.now.groups c.args.self.now.book k.book.log n c.args.node.now c.tries.pen.nib in
     subst R (sym c.in_ok-old.ensures.holds.number)
-    (ready-on c.args.self.now.book c.tries.handle.book.log k.book.log c.tries.handle.number c.args.node.now c.tries.pen.nib
-    c.in_ok-old.ensures.seen i.ready)
+    (ready-on c.args.self.now.groups c.args.self.now.book c.tries.handle.book.log k.book.log c.tries.handle.number c.args.node.now
+    c.tries.pen.nib c.in_ok-old.ensures.seen i.ready)
 
 pub attempt-requires-in-tries-clause-room : goal.attempt-requires-in-tries-clause-room
 attempt-requires-in-tries-clause-room g c =
@@ -63,12 +63,16 @@ tries-preserved g c =
     let it = c.attempt-in-tries.ensures in
     let lost = c.if-attempt-2.ensures in
     let number = c.in_ok-old.ensures.holds.number ∙ i.number.0 in
-    let R : ℕ → Type 0 = λ n. IsReady c.args.self.now.book t.handle.book.log n c.args.node.now t.pen.nib in
+    let R : ℕ → Type 0 = λ n. IsReady c.args.self.now.groups c.args.self.now.book t.handle.book.log n c.args.node.now t.pen.nib in
     let S : ℕ → Type 0 = λ n. SeesMore n c.tries.handle.book.log k.book.log in
     let U : ℕ → Type 0 = λ n. SeesMore n k.book.log t.handle.book.log in record {
       least = let l = i.least in omega arith;
       handle = it.holds.handle;
-      number = (it.holds.number ∙ number, it.holds.seats ∙ (c.in_ok-old.ensures.holds.seats ∙ i.number.1));
+      number = (
+        it.holds.number ∙ number,
+        it.holds.seats ∙ (c.in_ok-old.ensures.holds.seats ∙ i.number.1),
+        it.holds.groups ∙ (c.in_ok-old.ensures.holds.groups ∙ i.number.2),
+      );
       book = (it.holds.same, lost.again.0);
       names = it.holds.names ∙ (c.in_ok-old.ensures.holds.names ∙ i.names);
       ready = subst R (sym it.holds.number) lost.again.1;
@@ -100,7 +104,8 @@ pub returns-in_err-old-clause-holds : goal.returns-in_err-old-clause-holds
 returns-in_err-old-clause-holds g c =
     let i = c.tries.invariant in
     holds-on c.args.self.now.book c.args.handle.now c.tries.handle c.room.new.handle
-    (record { handle = i.handle; number = i.number.0; seats = i.number.1; same = i.book.0; names = i.names }) c.room.ensures.holds
+    (record { handle = i.handle; number = i.number.0; seats = i.number.1; groups = i.number.2; same = i.book.0; names = i.names })
+    c.room.ensures.holds
 
 pub returns-in_err-old-clause-costs : goal.returns-in_err-old-clause-costs
 returns-in_err-old-clause-costs g c =
@@ -115,7 +120,8 @@ returns-then-attempt-2-clause-holds g c =
     let h = c.args.handle.now in
     holds-on book h c.room.new.handle c.attempt-in-tries.new.handle
     (holds-on book h c.tries.handle c.room.new.handle
-    (record { handle = i.handle; number = i.number.0; seats = i.number.1; same = i.book.0; names = i.names }) c.room.ensures.holds)
+    (record { handle = i.handle; number = i.number.0; seats = i.number.1; groups = i.number.2; same = i.book.0; names = i.names })
+    c.room.ensures.holds)
     c.attempt-in-tries.ensures.holds
 
 pub returns-then-attempt-2-clause-costs : goal.returns-then-attempt-2-clause-costs
@@ -140,4 +146,4 @@ returns-then-attempt-2-clause-competed g c =
 pub returns-clause-holds : goal.returns-clause-holds
 returns-clause-holds g c =
     let i = c.tries.invariant in
-    record { handle = i.handle; number = i.number.0; seats = i.number.1; same = i.book.0; names = i.names }
+    record { handle = i.handle; number = i.number.0; seats = i.number.1; groups = i.number.2; same = i.book.0; names = i.names }

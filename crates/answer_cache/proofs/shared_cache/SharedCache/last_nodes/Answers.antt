@@ -24,7 +24,7 @@ Tagged nodes = All (λ node. node.now.tag ≡ hash_of (hashed_of node.now.questi
 pub links-init : goal.links-init
 links-init c = record {
   books = c.requires.books;
-  same = record { handle = c.requires.handle; number = refl; seats = refl; node_count = refl; book = refl };
+  same = record { handle = c.requires.handle; number = refl; seats = refl; groups = refl; node_count = refl; book = refl };
   tagged = subst Tagged (sym c.new-nodes.ensures.items) (All-nil (λ node. node.now.tag ≡ hash_of (hashed_of node.now.question)));
   gathers = λ whole ahead.
       let G : List (Bor Node) → Type 0 = λ nodes. Gathers whole c.args.cursor.now 0 (map said nodes) in

@@ -12,7 +12,8 @@ returns-then-cursor-top-clause-last c =
     let a = c.args in
     let log = a.cursor.now.seen.log in
     ok-found c.last_in.result (λ found it left ahead. it left
-    (ahead-told a.self.now.book a.cursor.now a.index.now log left c.law_log_keeps_its_rule.ensures ([], append-nil log) c.requires.behind
+    (ahead-told a.self.now.groups a.self.now.book a.cursor.now a.index.now log left c.law_log_keeps_its_rule.ensures
+    ([], append-nil log) c.requires.behind c.requires.groups.0 c.requires.groups.0
     c.requires.index ahead (c.if-cursor-top.true ∙ c.top.ensures))) c.last_in.ensures.last
 
 pub returns-then-cursor-top-clause-costs : goal.returns-then-cursor-top-clause-costs

@@ -40,7 +40,8 @@ returns-clause-lost g c =
     let r = c.room.new.handle in
     let k = c.make_ready.new.handle in
     let its = rw c.value.ensures at c.compete.ensures.lost in
-    lost-on c.compete.result node.question c.args.wanted.now.question.now c.args.handle.now.book.log r.book.log k.book.log
+    lost-on c.args.self.now.groups c.compete.result node.question c.args.wanted.now.question.now c.args.handle.now.book.log r.book.log
+    k.book.log
     c.compete.new.handle.book.log c.in_ok-old.old (spent_of k) (spent_of c.compete.new.handle) c.in_ok-pushed.ensures.made.0
     c.room.ensures.seen.stores
     c.make_ready.ensures.seen.later c.in_ok-old.ensures.room.0 its
@@ -54,7 +55,8 @@ returns-clause-leaves g c =
     let costs = c.room.ensures.costs in
     let spent = c.make_ready.ensures.spent in
     let its = rw c.value.ensures at c.compete.ensures.lost in
-    leaves-on c.compete.result node.question c.args.wanted.now.question.now h k c.compete.new.handle r.book.log c.in_ok-old.old
+    leaves-on c.args.self.now.groups c.compete.result node.question c.args.wanted.now.question.now h k c.compete.new.handle r.book.log
+    c.in_ok-old.old
     (let a = ap (λ s. s.tries) spent in omega (arith, costs.before)) (let a = ap (λ s. s.missed) spent in omega (arith, costs.missed))
     c.compete.ensures.tried c.in_ok-pushed.ensures.made.0
     c.make_ready.ensures.seen.later c.in_ok-old.ensures.room.0 its

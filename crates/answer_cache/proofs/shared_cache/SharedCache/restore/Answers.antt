@@ -1,8 +1,7 @@
-use Rattle.std.proofs.Common.{◌≡◌, ◌+◌, List, take, sym, subst, ◌∙◌, arith}
+use Rattle.std.proofs.Common.{◌≡◌, ◌+◌, take, sym, subst, ◌∙◌, arith}
 use Rattle.answer_log.specs.Histories.{mine}
 use Rattle.answer_log.specs.Logs.{history}
-use Rattle.answer_cache.specs.Carried.{carried_stores}
-use Rattle.answer_cache.specs.Seats.{Offer}
+use Rattle.answer_cache.specs.Carried.{CarriedView, carried_stores}
 use Rattle.answer_cache.proofs.Succeeding.{own-next, sound-at}
 use Rattle.answer_cache.proofs.shared_cache.SharedCache.restore.Goals as goal
 
@@ -10,13 +9,17 @@ pub put-requires-clause-handle : goal.put-requires-clause-handle
 put-requires-clause-handle g c = c.entries.invariant.holds.handle
 
 pub put-requires-clause-book : goal.put-requires-clause-book
-put-requires-clause-book g c = c.entries.invariant.holds.same
+put-requires-clause-book g c = (
+  c.entries.invariant.holds.same,
+  c.entries.invariant.holds.groups ∙ c.requires.book.1,
+)
 
 pub put-requires-clause-sound : goal.put-requires-clause-sound
 put-requires-clause-sound g c =
     let len = c.len-at-end.ensures in
     let test = c.entries-test.true in
-    sound-at c.carried.inside.entries.items c.entries.at c.index-entry.result.now (omega arith) c.index-entry.ensures c.carried.invariant
+    sound-at c.carried.inside.entries.items c.entries.at c.index-entry.result.now (omega arith) c.index-entry.ensures
+    c.carried.inside.groups c.carried.invariant.2
 
 pub entries-preserved : goal.entries-preserved
 entries-preserved g c =
@@ -24,14 +27,15 @@ entries-preserved g c =
     let p = c.put.ensures.holds in
     let new = history c.put.new.handle.book.log in
     let old = history c.entries.handle.book.log in
-    let Old : List Offer → Type 0 = λ offers. mine old 0 ≡ take c.entries.at (carried_stores offers) in
-    let New : List Offer → Type 0 = λ offers. mine new 0 ≡ take (c.entries.at + 1) (carried_stores offers) in
+    let Old : CarriedView → Type 0 = λ carried. mine old 0 ≡ take c.entries.at (carried_stores carried.offers) in
+    let New : CarriedView → Type 0 = λ carried. mine new 0 ≡ take (c.entries.at + 1) (carried_stores carried.offers) in
     let len = c.len-at-end.ensures in
     let test = c.entries-test.true in record {
       holds = record {
         handle = p.handle;
         number = p.number ∙ i.holds.number;
         seats = p.seats ∙ i.holds.seats;
+        groups = p.groups ∙ i.holds.groups;
         same = p.same;
         names = p.names ∙ i.holds.names;
       };

@@ -8,5 +8,5 @@ use Rattle.answer_cache.proofs.shared_cache.SharedCache.restore.Given as goal
 abbrev pub invariant-entries : goal.invariant-entries
 invariant-entries g l = record {
   holds : Holds l.self.book l.fn.handle l.handle;
-  own : mine (history l.handle.book.log) 0 ≡ take l.at (carried_stores l.carried);
+  own : mine (history l.handle.book.log) 0 ≡ take l.at (carried_stores l.carried.offers);
 }

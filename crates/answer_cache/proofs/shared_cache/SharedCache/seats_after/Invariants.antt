@@ -11,9 +11,9 @@ abbrev pub invariant-seats : goal.invariant-seats
 invariant-seats l = record {
   some : 0 < l._seat;
   handles : AreHandles l.handles;
-  next : (l.handles.next ≡ l._seat) × (l.handles.seats ≡ l.seats);
+  next : (l.handles.next ≡ l._seat) × (l.handles.seats ≡ l.seats) × (l.handles.groups ≡ l.self.groups);
   seen : l.handles.seen ≡ l.fn.handles.seen;
-  made : map (λ seat. seat.seat) l.made.items ≡ map (seat_seen (history l.told.log)) (range_with_len 0 l._seat);
-  belong : All (Belongs (cache_view l.self.book l.seats)) l.made.items;
+  made : map (λ seat. seat.seat) l.made.items ≡ map (seat_seen l.self.groups (history l.told.log)) (range_with_len 0 l._seat);
+  belong : All (Belongs (cache_view l.self.book l.seats l.self.groups)) l.made.items;
   alone : (seat : ℕ) → 0 < seat → seat < l._seat → mine (history l.told.log) seat ≡ [];
 }

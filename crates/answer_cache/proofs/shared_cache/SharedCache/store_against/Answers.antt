@@ -9,6 +9,7 @@ returns-clause-stored g c =
     let some = c.if-life-eq0.false in
     let is = c.life.ensures.life ∙ ap (λ a. a.life) c.deref.ensures in
     stored put.result c.seat.inside.handle c.seat.inside.notes c.args.seat.now put.new.handle.book.log put.new.handle.number
-    _
+    put.new.handle.groups _
     c.args.question.now (arc_value c.args.answer.now) c.args.now c.seat.view_is put.ensures.holds.number
-    (omega (arith, some, is)) c.law_log_keeps_its_rule.ensures.history put.ensures.put
+    (omega (arith, some, is)) c.law_log_keeps_its_rule.ensures.history
+    (put.ensures.holds.handle.groups ∙ put.ensures.holds.groups) put.ensures.put
