@@ -10,7 +10,7 @@ use mathlib.Core.List.{IsPrefix}
 use Rattle.dns_answers.specs.Values.{AnswerValue}
 use Rattle.dns_message.specs.Questions.{same_question}
 use Rattle.dns_message.specs.declared.question.Question.{Question}
-use Rattle.answer_log.specs.Groups.{group_of}
+use Rattle.answer_log.specs.Groups.{group_in}
 use Rattle.answer_log.specs.Histories.{cached, in_group, living, stores_of}
 use Rattle.answer_log.specs.declared.store.Store.{Store}
 use Rattle.answer_cache.specs.Carried.{IsCarriedOf, carried_stores, living_of, unseated}
@@ -44,24 +44,24 @@ module _ (P : Offer → Type 0) where
       (all-seen stores (All-tail P (unseated store) (map unseated stores) all))
 
   -- holds of what is carried, where it holds of what was seen
-  all-carried : (groups : ℕ) (before after : List Store) (now : ℕ) (carried : List Offer)
-      → IsCarriedOf groups before after now carried → All S after → All S (carried_stores carried)
-  all-carried groups before after now carried it all =
+  all-carried : (groups first : ℕ) (before after : List Store) (now : ℕ) (carried : List Offer)
+      → IsCarriedOf groups first before after now carried → All S after → All S (carried_stores carried)
+  all-carried groups first before after now carried it all =
       let H : List Offer → Type 0 = λ offers. All S (carried_stores offers) in
-      subst H (sym it.all) (all-from 0 groups (omega arith))
+      subst H (sym it.all) (all-from 0 first (omega arith))
     where
       part : ℕ → List Offer
-      part group = living_of now (in_group group (it.history group))
+      part group = living_of now (in_group groups group (it.history group))
 
-      all-part : (group : ℕ) → group < groups → All S (carried_stores (part group))
+      all-part : (group : ℕ) → group < first → All S (carried_stores (part group))
       all-part group low =
           let A : List Store → Type 0 = λ stores. All S stores in
           let front : All S (it.history group) =
           all-front S (it.history group) (it.till group low).0 (subst A (sym (it.till group low).1) all) in
-          carried-all S now (in_group group (it.history group))
-          (All-filter (λ store. group_of store.question == group) S (it.history group) front)
+          carried-all S now (in_group groups group (it.history group))
+          (All-filter (λ store. group_in groups store.question == group) S (it.history group) front)
 
-      all-from : (from size : ℕ) → from + size ≤ groups → All S (carried_stores (flat_map part (range_with_len from size)))
+      all-from : (from size : ℕ) → from + size ≤ first → All S (carried_stores (flat_map part (range_with_len from size)))
       all-from from zero fits = All-nil S
       all-from from (suc size) fits =
           let A : List Store → Type 0 = λ stores. All S stores in
@@ -87,7 +87,7 @@ module _ (P : Offer → Type 0) where
   all-begun (era ∷ older) (handles, more) all =
       let old = all-begun older more (all-front P (handed_before older) (handed_to older era.told.seen) all) in
       let new = all-back P (handed_before older) (handed_to older era.told.seen) all in
-      all-carried 64 handles.before era.told.seen handles.moment era.carried handles.carried
+      all-carried era.carried.groups era.carried.groups handles.before era.told.seen handles.moment era.carried.offers handles.carried
       (all-joined (begun_with older) era.told.seen handles.begins old new)
 
   -- and of all that a seat there has seen

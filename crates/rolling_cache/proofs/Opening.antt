@@ -6,8 +6,8 @@ use Rattle.std.specs.List.{All, range_with_len}
 use mathlib.Core.List.{IsPrefix}
 use Rattle.answer_log.specs.declared.store.Store.{Store}
 use Rattle.answer_cache.proofs.Placing.{prefix-trans}
-use Rattle.answer_cache.specs.Carried.{IsCarried, carried_stores, seat_after}
-use Rattle.answer_cache.specs.Seats.{Offer, SeatView}
+use Rattle.answer_cache.specs.Carried.{CarriedView, IsCarried, carried_stores, seat_after}
+use Rattle.answer_cache.specs.Seats.{SeatView}
 use Rattle.answer_cache.specs.Shared.{Belongs, CacheView, SharedView, NoticeView, new_seat}
 use Rattle.rolling_cache.specs.Eras.{Descends, Era, HandsOn, begun_with, era_of}
 use Rattle.rolling_cache.specs.Rolling.{GenerationView, HandsOver, IsFresh, IsFreshAt, RollingView, generation_of, rolling_of}
@@ -42,7 +42,7 @@ fresh-first cache seats past items none belong are =
         (λ k d low. (refl, refl)))
 
 -- those of a successor are fresh in the next one
-pub fresh-next : (cache : CacheView) (seats : ℕ) (told : NoticeView) (carried : List Offer) (older past : List Era)
+pub fresh-next : (cache : CacheView) (seats : ℕ) (told : NoticeView) (carried : CarriedView) (older past : List Era)
     (items : List SharedView) → past ≡ era_of told carried ∷ older → All (Belongs cache) items
     → map (λ seat. seat.seat) items ≡ map (seat_after carried) (range_with_len 0 seats)
     → All (λ seat. IsFresh (rolling_of (generation_of cache past) seat)) items
@@ -50,17 +50,17 @@ fresh-next cache seats told carried older past items is belong are =
     let G : List Era → Type 0 = λ l. All (λ seat. IsFresh (rolling_of (generation_of cache l) seat)) items in
     subst G (sym is) (λ k d low. fresh cache (era_of told carried ∷ older) _ (belong k d low) (begun k d low).0 (begun k d low).1)
   where
-    begun : All (λ seat. (seat.seat.seen ≡ carried_stores carried) × (seat.seat.offered ≡ [])) items
+    begun : All (λ seat. (seat.seat.seen ≡ carried_stores carried.offers) × (seat.seat.offered ≡ [])) items
     begun =
-        let A : List SeatView → Type 0 = λ l. All (λ seat. (seat.seen ≡ carried_stores carried) × (seat.offered ≡ [])) l in
-        all-under (λ (seat : SeatView). (seat.seen ≡ carried_stores carried) × (seat.offered ≡ []))
+        let A : List SeatView → Type 0 = λ l. All (λ seat. (seat.seen ≡ carried_stores carried.offers) × (seat.offered ≡ [])) l in
+        all-under (λ (seat : SeatView). (seat.seen ≡ carried_stores carried.offers) × (seat.offered ≡ []))
         (λ (seat : SharedView). seat.seat) items
         (subst A (sym are)
-        (All-map (λ (seat : SeatView). (seat.seen ≡ carried_stores carried) × (seat.offered ≡ [])) (seat_after carried)
+        (All-map (λ (seat : SeatView). (seat.seen ≡ carried_stores carried.offers) × (seat.offered ≡ [])) (seat_after carried)
         (range_with_len 0 seats) (λ k d low. (refl, refl))))
 
 -- the next one descends from what the one before it handed on
-pub law_descends-next : (old new : List Store) (now : ℕ) (told : NoticeView) (carried : List Offer) (older past : List Era)
+pub law_descends-next : (old new : List Store) (now : ℕ) (told : NoticeView) (carried : CarriedView) (older past : List Era)
     → past ≡ era_of told carried ∷ older → Descends older → IsPrefix (carried_stores (begun_with older)) old
     → IsPrefix old new → told.seen ≡ new → IsCarried old new now carried → Descends past
 law_descends-next old new now told carried older past is before begins later seen it =
@@ -77,17 +77,19 @@ law_descends-next old new now told carried older past is before begins later see
       before,
     )
 
-pub over : (now : ℕ) (old : RollingView) (seat : SharedView) (told : NoticeView) (carried : List Offer) (made : GenerationView)
+pub over : (now : ℕ) (old : RollingView) (seat : SharedView) (told : NoticeView) (carried : CarriedView) (made : GenerationView)
     → made.past ≡ era_of told carried ∷ old.generation.past → told.cache ≡ old.generation.cache → told.seen ≡ seat.seat.seen
-    → IsCarried old.seat.seat.seen seat.seat.seen now carried → HandsOver now old (rolling_of made seat)
-over now old seat told carried made past cache seen it =
-    let begun : begun_with made.past ≡ carried = ap begun_with past in
-    let C : List Offer → Type 0 = λ offers. IsCarried old.seat.seat.seen seat.seat.seen now offers in
+    → IsCarried old.seat.seat.seen seat.seat.seen now carried → carried.groups ≡ old.generation.cache.groups
+    → made.cache.groups ≡ carried.groups → HandsOver now old (rolling_of made seat)
+over now old seat told carried made past cache seen it was groups =
     record {
       seen = seat.seat.seen;
-      carried = subst C (sym begun) it;
+      handed = carried;
+      carried = it;
       told = told;
-      past = past ∙ ap (λ offers. era_of told offers ∷ old.generation.past) (sym begun);
+      past = past;
+      was = was;
+      groups = groups ∙ was;
       cache = cache;
       is = seen;
     }
@@ -98,3 +100,8 @@ pub one-more : (generation : GenerationView) (made more : List RollingView) (sea
 one-more generation made more seat is all fresh here =
     let A : List RollingView → Type 0 = λ l. All (IsFreshAt generation) l in
     subst A (sym is) (All-push (IsFreshAt generation) made seat all (record { fresh = fresh; here = here }))
+
+-- what holds of all holds of the last one
+pub all-last : {X : Type 0} (P : X → Type 0) (xs : List X) (x : X) → All P (xs ++ x ∷ []) → P x
+all-last P [] x all = All-head P x [] all
+all-last P (y ∷ xs) x all = all-last P xs x (All-tail P y (xs ++ x ∷ []) all)

@@ -6,7 +6,7 @@ use Rattle.dns_answers.specs.Values.{AnswerValue}
 use Rattle.dns_message.specs.Questions.{same_question}
 use Rattle.dns_message.specs.declared.question.Question.{Question}
 use Rattle.answer_log.specs.declared.store.Store.{Store}
-use Rattle.answer_cache.specs.Carried.{IsCarried, carried_stores, unseated}
+use Rattle.answer_cache.specs.Carried.{CarriedView, IsCarried, carried_stores, unseated}
 use Rattle.answer_cache.specs.Seats.{Offer}
 use Rattle.answer_cache.specs.Shared.{NoticeView}
 
@@ -14,16 +14,16 @@ use Rattle.answer_cache.specs.Shared.{NoticeView}
 -- it carried.
 pub record Era : Type 0 where
   pub told : NoticeView
-  pub carried : List Offer
+  pub carried : CarriedView
 
 -- the era of a generation, by what was told of its cache and by what it carried
-abbrev pub era_of : NoticeView → List Offer → Era
+abbrev pub era_of : NoticeView → CarriedView → Era
 era_of told carried = record { told = told; carried = carried }
 
 -- what a generation after these begins with, the newest era first
 abbrev pub begun_with : List Era → List Offer
 begun_with [] = []
-begun_with (era ∷ older) = era.carried
+begun_with (era ∷ older) = era.carried.offers
 
 -- what was handed in to be stored in the generation after these, as far as a seat has seen it
 abbrev pub handed_to : List Era → List Store → List Offer

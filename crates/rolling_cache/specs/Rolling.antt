@@ -2,7 +2,7 @@
 use Rattle.std.specs.Prelude.{◌≡◌, ℕ, List, [], ◌∷◌}
 use mathlib.Core.List.{IsPrefix}
 use Rattle.answer_log.specs.declared.store.Store.{Store}
-use Rattle.answer_cache.specs.Carried.{IsCarried, carried_stores}
+use Rattle.answer_cache.specs.Carried.{CarriedView, IsCarried, carried_stores}
 use Rattle.answer_cache.specs.Seats.{GoesOn, StoresNothing}
 use Rattle.answer_cache.specs.Shared.{Belongs, CacheView, SharedView, NoticeView}
 use Rattle.rolling_cache.specs.Eras.{Era, begun_with, era_of}
@@ -46,6 +46,10 @@ pub record IsFirst (it : RollingView) : Type 0 where
   pub fresh : IsFresh it
   pub first : it.generation.past ≡ []
 
+-- the generation of the seat is of so many groups
+abbrev pub IsOfGroups : ℕ → RollingView → Type 0
+IsOfGroups groups it = it.generation.cache.groups ≡ groups
+
 -- the seat is at its generation, whose history goes on, and it has stored nothing
 pub record Waits (old new : RollingView) : Type 0 where
   pub generation : new.generation ≡ old.generation
@@ -53,13 +57,15 @@ pub record Waits (old new : RollingView) : Type 0 where
   pub stores_nothing : StoresNothing old.seat.seat new.seat.seat
 
 -- The new generation begins with what was carried of the old one at the moment: of each group what
--- lived then of a history that goes on with what the seat had seen.
+-- lived then of a history that goes on with what the seat had seen. It has as many groups.
 pub record HandsOver (now : ℕ) (old new : RollingView) : Type 0 where
   pub seen : List Store
-  pub carried : IsCarried old.seat.seat.seen seen now (begun_with new.generation.past)
+  pub handed : CarriedView
+  pub carried : IsCarried old.seat.seat.seen seen now handed
   pub told : NoticeView
-  pub past : new.generation.past
-      ≡ era_of told (begun_with new.generation.past) ∷ old.generation.past
+  pub past : new.generation.past ≡ era_of told handed ∷ old.generation.past
+  pub was : handed.groups ≡ old.generation.cache.groups
+  pub groups : new.generation.cache.groups ≡ old.generation.cache.groups
   pub cache : told.cache ≡ old.generation.cache
   pub is : told.seen ≡ seen
 

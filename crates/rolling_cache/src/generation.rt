@@ -1,7 +1,8 @@
 //! A generation, and the one that is present.
 ghost use Rattle.std.specs.Prelude.{◌≡◌, ◌<◌, ◌≤◌, ℕ, [], IfErr, IfOk, IfSome, OnOk};
 ghost use Rattle.std.specs.List.{All};
-ghost use Rattle.answer_cache.specs.Shared.{Refuses};
+ghost use Rattle.answer_cache.specs.Lists.{IsGroupCount};
+ghost use Rattle.answer_cache.specs.Shared.{RefusesGroups};
 ghost use Rattle.rolling_cache.specs.Eras.{Descends};
 ghost use Rattle.rolling_cache.specs.Rolling.{Changes, HandsOver, IsAt, IsFresh, Waits};
 ghost use Rattle.rolling_cache.specs.Rolling.{generation_of, rolling_of};
@@ -9,16 +10,14 @@ ghost use Rattle.rolling_cache.specs.Rolling.{generation_of, rolling_of};
 use crate::change::Change;
 use crate::lineage::Lineage;
 use crate::seat::RollingSeat;
-use answer_cache::{CacheRefusal, Seat, SharedCache, StoreRefusal, group};
+use answer_cache::{CacheRefusal, Seat, SharedCache, StoreRefusal};
+use answer_log::hash;
 use dns_answers::Moment;
 use dns_message::Question;
 use std::alloc::{AllocError, Global};
 use std::marker::Model;
 use std::sync::atomic::{AtomicBool, AtomicU64, Ordering};
 use std::sync::{Arc, Wait};
-
-/// How many groups there are.
-const GROUP_COUNT: usize = 64;
 
 /// How many stores a generation makes in a group before it is to end: half of what a group takes.
 const STORES_TO_END: u64 = 64;
@@ -45,10 +44,10 @@ impl Model for Generation {
     ghost invariant = { λ it. Descends it.lineage };
 }
 
-/// A count of stores for each group.
-fn no_counts(alloc: Global) -> Result<Vec<AtomicU64>, AllocError> {
-    let mut counts = Vec::with_capacity(alloc, GROUP_COUNT)?;
-    'groups: for _group in 0..GROUP_COUNT {
+/// A count of stores for each of so many groups.
+fn no_counts(alloc: Global, groups: u32) -> Result<Vec<AtomicU64>, AllocError> {
+    let mut counts = Vec::with_capacity(alloc, groups as usize)?;
+    'groups: for _group in 0..groups {
         counts.push(AtomicU64::new(0))?;
     }
     Ok(counts)
@@ -85,7 +84,10 @@ impl Generation {
 
     /// Counts a store of this question.
     fn count(&self, question: &Question) {
-        let Some(stored) = self.stored.get(usize::from(group(question))) else {
+        let Some(group) = (hash(question) as usize).checked_rem(self.stored.len()) else {
+            return;
+        };
+        let Some(stored) = self.stored.get(group) else {
             return;
         };
         if stored.fetch_add(1, Ordering::SeqCst) >= STORES_TO_END - 1 {
@@ -106,14 +108,21 @@ impl Generation {
         }
     }
 
-    /// The first generation.
-    pub(crate) fn first(alloc: Global, seats: usize, now: Moment) -> Result<Present, CacheRefusal>
+    /// The first generation, of so many groups.
+    pub(crate) fn first(
+        alloc: Global,
+        seats: usize,
+        groups: u32,
+        now: Moment,
+    ) -> Result<Present, CacheRefusal>
         ensures past { IfOk result (λ made. made.past ≡ []) }
-        ensures count { OnOk result ((0 < seats) × (seats ≤ 64)) }
-        ensures refused { IfErr result (Refuses seats) }
+        ensures groups { IfOk result (λ made. made.cache.groups ≡ groups) }
+        ensures count { OnOk result ((0 < seats) × (seats ≤ 64) × IsGroupCount groups) }
+        ensures refused { IfErr result (RefusesGroups seats groups) }
     {
-        let (cache, seats) = SharedCache::new(alloc, seats)?;
-        let Ok(made) = Present::open(alloc, cache, seats, 0, now, Lineage::none()) else {
+        let (cache, seats) = SharedCache::with_groups(alloc, seats, groups)?;
+        let opened = Present::open(alloc, cache, seats, groups, 0, now, Lineage::none());
+        let Ok(made) = opened else {
             return Err(CacheRefusal::Memory);
         };
         Ok(made)
@@ -139,8 +148,9 @@ impl Generation {
         let Ok((cache, seats)) = SharedCache::successor(rt, alloc, &carried, seats) else {
             return Err(AllocError);
         };
+        let groups = carried.groups();
         let number = self.number.wrapping_add(1);
-        let made = Present::open(alloc, cache, seats, number, now, lineage)?;
+        let made = Present::open(alloc, cache, seats, groups, number, now, lineage)?;
         Ok(made)
     }
 }
@@ -171,6 +181,7 @@ impl Present {
         alloc: Global,
         cache: SharedCache,
         seats: Vec<Seat>,
+        groups: u32,
         number: u64,
         began: Moment,
         lineage: Lineage,
@@ -185,7 +196,7 @@ impl Present {
             number,
             lineage,
             began,
-            stored: no_counts(alloc)?,
+            stored: no_counts(alloc, groups)?,
             ending: AtomicBool::new(false),
         };
         let generation = Arc::new(alloc, generation)?;
@@ -198,7 +209,9 @@ impl Present {
         ensures here { IfSome result (λ made. made.generation ≡ self.old) }
         ensures same { self.new ≡ self.old }
     {
-        let generation = Arc::try_clone(&self.generation).ok()?;
+        let Ok(generation) = Arc::try_clone(&self.generation) else {
+            return None;
+        };
         let seat = self.seats.pop()?;
         Some(RollingSeat { generation, seat })
     }

@@ -1,13 +1,13 @@
 //! Laws of a rolling cache. A call of one does nothing; its contract states the law.
 ghost use denote.Param.Send.{IsSync};
-ghost use Rattle.std.specs.Prelude.{◌≡◌, ◌≤◌, ℕ, List, Some};
+ghost use Rattle.std.specs.Prelude.{◌≡◌, ◌<◌, ◌≤◌, ℕ, List, Some};
 ghost use Rattle.std.specs.List.{Any};
 ghost use Rattle.dns_answers.specs.Values.{AnswerValue};
 ghost use Rattle.dns_message.specs.declared.question.Question.{Question as Asked};
-ghost use Rattle.answer_log.specs.Groups.{group_of};
+ghost use Rattle.answer_log.specs.Groups.{group_in};
 ghost use Rattle.answer_log.specs.Histories.{cached};
 ghost use Rattle.answer_log.specs.declared.store.Store.{Store};
-ghost use Rattle.answer_cache.specs.Carried.{IsCarried, carried_stores};
+ghost use Rattle.answer_cache.specs.Carried.{CarriedView, IsCarried, carried_stores};
 ghost use Rattle.rolling_cache.specs.Eras.{Gives, begun_with, handed_in};
 ghost use Rattle.rolling_cache.specs.Rolling.{IsAt};
 ghost use Rattle.rolling_cache.specs.contracts.rolling.RollingCache.{the_row};
@@ -31,11 +31,11 @@ pub fn law_answers_were_handed_in(seat: &RollingSeat)
 /// question as the history did from which its group was carried: no store of the question was
 /// later.
 pub fn law_renewed_answers_as_before(seat: &RollingSeat)
-    ensures { (before after : List Store) (now later : ℕ) → now ≤ later
-        → (it : IsCarried before after now (begun_with seat.now.generation.past))
-        → (question : Asked)
+    ensures { (carried : CarriedView) (before after : List Store) (now later : ℕ)
+        → 0 < carried.groups → carried.offers ≡ begun_with seat.now.generation.past
+        → now ≤ later → (it : IsCarried before after now carried) → (question : Asked)
         → cached (carried_stores (begun_with seat.now.generation.past)) question later
-        ≡ cached (it.history (group_of question)) question later }
+        ≡ cached (it.history (group_in carried.groups question)) question later }
 {
     let _ = seat;
     law_same_questions_are_equal();

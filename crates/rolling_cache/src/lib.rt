@@ -39,11 +39,15 @@
 //!
 //! # How large it is
 //!
-//! A generation takes at most 128 stores in each of 64 groups: 8,192. It is to end after 64 stores
-//! in one group at the least, where all are of one group. Where the questions are many, groups fill
-//! evenly, and that is after some 2,500 to 3,500 stores. A million names a day, each stored once,
-//! are 12 stores a second, and a new generation every four or five minutes. As many answers as live
-//! at once have to fit: 63 in a group, some 2,500 in all, are never refused.
+//! A generation takes at most 128 stores in each of its groups, 64 or as many as `with_groups` is
+//! told. With 64 it takes 8,192. It is to end after 64 stores in one group at the least, where all
+//! are of one group. Where the questions are many, groups fill evenly, and that is after some 2,500
+//! to 3,500 stores. A million names a day, each stored once, are 12 stores a second, and a new
+//! generation every four or five minutes. As many answers as live at once have to fit: 63 in a
+//! group, some 2,500 in all, are never refused.
+//!
+//! With 65,536 groups, the most that there can be, a thousand times as many fit. A group costs 16
+//! octets in a generation, and 24 more in each seat that looks something up there.
 //!
 //! Each generation that a seat is at is in memory: the present one, and while generations change
 //! the ones before it, one for each seat at most. Beside its stores it has an index of each seat:

@@ -8,13 +8,14 @@ ghost use Rattle.dns_answers.specs.Records.{kind_of};
 ghost use Rattle.answer_log.specs.Histories.{cached};
 ghost use Rattle.dns_answers.specs.Found.{answer_in};
 ghost use Rattle.answer_cache.specs.Seats.{GoesOn, IsRefused, IsStored, StoresNothing, offer_of};
-ghost use Rattle.answer_cache.specs.Shared.{Refuses};
-ghost use Rattle.rolling_cache.specs.Rolling.{Changes, IsAt, IsFirst, IsFresh, IsFreshAt, Waits};
+ghost use Rattle.answer_cache.specs.Shared.{Refuses, RefusesGroups};
+ghost use Rattle.rolling_cache.specs.Rolling.{Changes, IsAt, IsFirst, IsFresh, IsFreshAt, IsOfGroups, Waits};
 
 use crate::change::Change;
 use crate::generation::{Generation, Present};
 use crate::seat::RollingSeat;
 use answer_cache::{AnswerBook, CacheRefusal, StoreRefusal, Stores};
+use answer_log::LEAST_GROUPS;
 use dns_answers::{Answer, FoundAnswer, Moment};
 use dns_message::Question;
 use std::alloc::{AllocError, Global};
@@ -52,7 +53,7 @@ fn take_seats(
 }
 
 impl RollingCache {
-    /// A cache in which nothing is stored, and its seats.
+    /// A cache of 64 groups in which nothing is stored, and its seats.
     ///
     /// # Errors
     /// `BadCount` outside 1 to 64 seats, and then `Memory`.
@@ -62,10 +63,31 @@ impl RollingCache {
         now: Moment,
     ) -> Result<(RollingCache, Vec<RollingSeat>), CacheRefusal>
         ensures first { IfOk result (λ made. All IsFirst made.1.items) }
+        ensures groups { IfOk result (λ made. All (IsOfGroups 64) made.1.items) }
         ensures count { IfOk result (λ made. length made.1.items ≡ seats) }
         ensures refused { IfErr result (Refuses seats) }
     {
-        let mut present = Generation::first(alloc, seats, now)?;
+        RollingCache::with_groups(alloc, seats, LEAST_GROUPS, now)
+    }
+
+    /// A cache of so many groups in which nothing is stored, and its seats. Each generation has as
+    /// many groups.
+    ///
+    /// # Errors
+    /// `BadCount` outside 1 to 64 seats, and where the number of groups is no power of two from 64
+    /// to 65,536; and then `Memory`.
+    pub fn with_groups(
+        alloc: Global,
+        seats: usize,
+        groups: u32,
+        now: Moment,
+    ) -> Result<(RollingCache, Vec<RollingSeat>), CacheRefusal>
+        ensures first { IfOk result (λ made. All IsFirst made.1.items) }
+        ensures groups { IfOk result (λ made. All (IsOfGroups groups) made.1.items) }
+        ensures count { IfOk result (λ made. length made.1.items ≡ seats) }
+        ensures refused { IfErr result (RefusesGroups seats groups) }
+    {
+        let mut present = Generation::first(alloc, seats, groups, now)?;
         let Ok(made) = take_seats(alloc, &mut present, seats) else {
             return Err(CacheRefusal::Memory);
         };

@@ -1,7 +1,7 @@
 use Rattle.rolling_cache.proofs.Opening.{fresh-first}
 use Rattle.rolling_cache.proofs.generation.Generation.first.Goals as goal
 
-pub open-requires-clause-fresh : goal.open-requires-clause-fresh
-open-requires-clause-fresh c =
+pub open-opened-requires-clause-fresh : goal.open-opened-requires-clause-fresh
+open-opened-requires-clause-fresh c =
     fresh-first c.in_ok-cache.cache c.args.seats c.none.result c.in_ok-cache.seats.items c.none.ensures
     c.in_ok-cache.ensures.belong c.in_ok-cache.ensures.seats

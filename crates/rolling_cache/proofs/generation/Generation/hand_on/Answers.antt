@@ -25,3 +25,5 @@ returns-clause-over g c =
     ∙ ap (λ (it : GenerationView). era_of c.notice.result c.in_ok-carried.carried ∷ it.past) c.self.view_is))
     (c.notice.ensures.0 ∙ (c.carry.ensures.stays.made ∙ ap (λ (it : GenerationView). it.cache) c.self.view_is))
     c.notice.ensures.1 c.in_ok-carried.ensures.carried
+    (c.in_ok-carried.ensures.groups ∙ ap (λ (it : GenerationView). it.cache.groups) c.self.view_is)
+    (ap (λ (it : GenerationView). it.cache.groups) c.in_ok-made.ensures ∙ c.in-Ok.ensures.groups)
