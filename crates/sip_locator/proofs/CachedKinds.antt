@@ -38,5 +38,6 @@ module _ (same : (question other : Question) → IsTrue (same_question question 
       rw (← question-is, ← answer-is) kind.1
 
   -- of the question's kind
-  pub cached-kind : IsHistory history → Some answer ≡ cached history question now → kind_of answer.records ≡ question.kind
-  cached-kind sound found = of-kind (last_or None (stores_of question history)) refl sound.sound (sym found)
+  pub cached-kind : (groups : ℕ) → IsHistory groups history → Some answer ≡ cached history question now
+      → kind_of answer.records ≡ question.kind
+  cached-kind groups sound found = of-kind (last_or None (stores_of question history)) refl sound.sound (sym found)

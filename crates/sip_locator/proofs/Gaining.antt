@@ -46,6 +46,7 @@ module _ (before after : SeatView) where
   on-through middle front back = record {
     number = back.number ∙ front.number;
     seen = prefix-through before.seen middle.seen after.seen front.seen back.seen;
+    groups = back.groups ∙ front.groups;
   }
 
   pub nothing-through : (middle : SeatView) → StoresNothing before middle → StoresNothing middle after → StoresNothing before after
@@ -53,7 +54,7 @@ module _ (before after : SeatView) where
 
 pub begins : (it : SelectionValue) (seat : SeatView) (now : ℕ) → Progress it it seat seat now 0
 begins it seat now = record {
-  goes_on = record { number = refl; seen = prefix-self seat.seen };
+  goes_on = record { number = refl; seen = prefix-self seat.seen; groups = refl };
   stores_nothing = record { own = refl; offered = refl };
   gains = nothing refl;
   many = omega arith;

@@ -22,11 +22,14 @@ prefix-through first middle last front back =
     (front.0 ++ back.0, sym (append_assoc first front.0 back.0) ∙ ap (λ l. l ++ back.0) front.1 ∙ back.1)
 
 pub goes-not : (seat : SeatView) → GoesOn seat seat
-goes-not seat = record { number = refl; seen = prefix-self seat.seen }
+goes-not seat = record { number = refl; seen = prefix-self seat.seen; groups = refl }
 
 pub goes-through : (old middle new : SeatView) → GoesOn old middle → GoesOn middle new → GoesOn old new
-goes-through old middle new front back =
-    record { number = back.number ∙ front.number; seen = prefix-through old.seen middle.seen new.seen front.seen back.seen }
+goes-through old middle new front back = record {
+  number = back.number ∙ front.number;
+  seen = prefix-through old.seen middle.seen new.seen front.seen back.seen;
+  groups = back.groups ∙ front.groups;
+}
 
 pub nothing-not : (seat : SeatView) → StoresNothing seat seat
 nothing-not seat = record { own = refl; offered = refl }
@@ -37,7 +40,7 @@ nothing-through old middle new front back = record { own = back.own ∙ front.ow
 module _ (gives : List ℕ → Type 0) (shows : ℕ → Type 0) where
   pub works-not : (seat : SeatView) → Works gives shows seat seat
   works-not seat = record {
-    goes_on = record { number = refl; seen = prefix-self seat.seen };
+    goes_on = record { number = refl; seen = prefix-self seat.seen; groups = refl };
     offers = [];
     offered = sym (append-nil seat.offered);
     heard = All-nil (IsHeard gives shows);

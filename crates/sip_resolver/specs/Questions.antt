@@ -92,6 +92,7 @@ pub record IsMessageOf (transmit : Transmit) (id : ℕ) (tickets : List Ticket) 
   pub there : ticket_of id tickets ≡ Some ticket
   pub are : transmit.octets.now ≡ sent_octets id ticket.sent.question
   pub send : transmit.send ≡ ticket.sent.sends
+  pub named : transmit.id ≡ id
 
 -- this message is that of the question that is out under this id, over what it goes
 abbrev pub IsSent : ℕ → QuestionsView → Option Transmit → Type 0

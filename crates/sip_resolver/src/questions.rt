@@ -269,6 +269,7 @@ impl Questions {
         if let Some(octets) = self.datagrams.octets_of(id) {
             return Some(Transmit {
                 octets,
+                id,
                 over: DnsTransport::Datagram,
                 send: self.datagrams.sends_of(id),
             });
@@ -276,6 +277,7 @@ impl Questions {
         let octets = self.streams.octets_of(id)?;
         Some(Transmit {
             octets,
+            id,
             over: DnsTransport::Stream,
             send: self.streams.sends_of(id),
         })

@@ -15,6 +15,8 @@ pub enum DnsTransport {
 pub struct Transmit<'a> {
     /// The message, which begins with its id.
     pub octets: &'a [u8],
+    /// Its id (RFC 1035 4.1.1), under which its question is out.
+    pub id: u16,
     /// What the message goes over.
     pub over: DnsTransport,
     /// Which send of its question it is over this: 1 for the first.

@@ -87,7 +87,7 @@ module _ (gives : List ℕ → Type 0) (shows : ℕ → Type 0) where
 
   pub works-not : (seat : SeatView) → Works gives shows seat seat
   works-not seat = record {
-    goes_on = record { number = refl; seen = prefix-self seat.seen };
+    goes_on = record { number = refl; seen = prefix-self seat.seen; groups = refl };
     offers = [];
     offered = sym (append-nil seat.offered);
     heard = All-nil (IsHeard gives shows);
@@ -112,6 +112,7 @@ module _ (gives : List ℕ → Type 0) (shows : ℕ → Type 0) where
     goes_on = record {
       number = back.goes_on.number ∙ front.goes_on.number;
       seen = prefix-through old.seen middle.seen new.seen front.goes_on.seen back.goes_on.seen;
+      groups = back.goes_on.groups ∙ front.goes_on.groups;
     };
     offers = front.offers ++ back.offers;
     offered = back.offered ∙ ap (λ l. l ++ back.offers) front.offered ∙ append_assoc old.offered front.offers back.offers;

@@ -61,9 +61,9 @@ module _ (gives : List ℕ → Type 0) (shows : ℕ → Type 0) (cache : CacheVi
 
 -- ---- the history of it
 
--- a history of this cache: its stores are sound, and of the cache's seats alone
+-- a history of this cache, by its groups: its stores are sound, and of the cache's seats alone
 pub record IsHistoryOf (cache : CacheView) (history : List Store) : Type 0 where
-  pub sound : IsHistory history
+  pub sound : IsHistory cache.groups history
   pub seats : All (λ store. store.seat < cache.seats) history
 
 -- over a wire and a clock

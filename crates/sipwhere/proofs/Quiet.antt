@@ -12,11 +12,14 @@ prefix-through first middle last front back =
     (front.0 ++ back.0, sym (append_assoc first front.0 back.0) ∙ ap (λ l. l ++ back.0) front.1 ∙ back.1)
 
 pub goes-not : (seat : SeatView) → GoesOn seat seat
-goes-not seat = record { number = refl; seen = ([], append-nil seat.seen) }
+goes-not seat = record { number = refl; seen = ([], append-nil seat.seen); groups = refl }
 
 pub goes-through : (old middle new : SeatView) → GoesOn old middle → GoesOn middle new → GoesOn old new
-goes-through old middle new front back =
-    record { number = back.number ∙ front.number; seen = prefix-through old.seen middle.seen new.seen front.seen back.seen }
+goes-through old middle new front back = record {
+  number = back.number ∙ front.number;
+  seen = prefix-through old.seen middle.seen new.seen front.seen back.seen;
+  groups = back.groups ∙ front.groups;
+}
 
 pub nothing-not : (seat : SeatView) → StoresNothing seat seat
 nothing-not seat = record { own = refl; offered = refl }

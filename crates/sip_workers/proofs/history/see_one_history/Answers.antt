@@ -1,4 +1,6 @@
+use Rattle.std.proofs.Common.{ℕ, subst}
 use Rattle.std.proofs.lemmas.List.Elements.{All-push}
+use Rattle.answer_log.specs.Histories.{IsHistory}
 use Rattle.sip_workers.proofs.Learning.{learned-on, told_by}
 use Rattle.sip_workers.proofs.Storing.{IsWhole, stays-through, whole-own}
 use Rattle.sip_workers.proofs.history.see_one_history.Goals as goal
@@ -15,7 +17,8 @@ returns c =
     record {
       history = last.seen;
       is = record {
-        sound = c.learn_seats.ensures.stays.is.history;
+        sound = subst (λ (groups : ℕ). IsHistory groups last.seen) c.learn_seats.ensures.stays.groups
+            c.learn_seats.ensures.stays.is.history;
         seats = rw c.learn_seats.ensures.stays.made at c.law_stores_are_of_the_seats.ensures;
       };
       begin = learned-on told_by c.args.made.now middle.seen last.seen c.learn_seats.ensures.same.seen c.learn_notices.ensures.told;
