@@ -1,5 +1,5 @@
 -- The requests inside both generations.
-use Rattle.std.proofs.Common.{◌≡◌, ℕ, ◌+◌, List, Option, ap, arith}
+use Rattle.std.proofs.Common.{◌≡◌, ℕ, ◌+◌, List, Option, ap, ◌∙◌, arith}
 use Rattle.std.specs.Prelude.{false}
 use Rattle.std.proofs.lemmas.List.Sums.{sum_by_push}
 use Rattle.sip_resolver.specs.Outcomes.{Sought}
@@ -30,11 +30,12 @@ pub gains-by : (number : ℕ) (request : Request) (caps : Caps) (words : List �
     → after ≡ record middle.current { core = with_request number request caps words until middle.current.core }
     → SameInside old middle → GainsOne number request caps until old (record middle { current = after })
 gains-by number request caps words until old middle after is same = record {
+  most = ap (λ (g : GenerationView). g.core.requests.limit) is ∙ same.0;
   words = words;
-  weighs = λ h. rw is (let more = one-more h number request caps words until middle.current.core in omega (arith, more, same h));
+  weighs = λ h. rw is (let more = one-more h number request caps words until middle.current.core in omega (arith, more, same.1 h));
 }
 
 -- the same are inside the younger generation
 pub younger-same : (old : RollingView) (after : GenerationView) → AreSame old.current.core.requests after.core.requests
     → SameInside old (record old { current = after })
-younger-same old after same h = ap (λ (w : ℕ). w + of_older (weight_of h) old.draining) (same.1 h)
+younger-same old after same = (same.0, λ h. ap (λ (w : ℕ). w + of_older (weight_of h) old.draining) (same.1 h))

@@ -3,6 +3,7 @@ pub mod Choosing
 pub mod Crossing
 pub mod Inside
 pub mod Receiving
+pub mod Refusing
 pub mod Renewing
 pub mod Resting
 pub mod Seating

@@ -10,7 +10,7 @@ use Rattle.rolling_resolver.specs.Rolling.{GenerationView, Learns, Receives, Rec
 module _ (over : DnsTransport) (octets : List ℕ) (now : ℕ) where
   -- a generation that ignores octets is as it was
   ignores : (why : Why) (old new : GenerationView) → Learns over octets now (Ignored why) old new → new ≡ old
-  ignores why old new it = λ j. record { core = it.hears.1 j; seat = it.leaves j }
+  ignores why old new it = λ j. record { core = it.hears.1 j; seat = it.leaves j; mark = it.mark j }
 
   module _ (old : RollingView) where
     -- the younger generation takes them

@@ -1,8 +1,8 @@
 -- What a request that comes in leaves.
-use Rattle.std.proofs.Common.{◌≡◌, ◌⊎◌, inl, inr, Some, None, sym, ap, ◌∙◌, subst}
+use Rattle.std.proofs.Common.{◌≡◌, ◌⊎◌, inl, inr, ℕ, Some, None, refl, sym, ap, ◌∙◌, subst}
 use Rattle.std.specs.Option.{option_map}
 use Rattle.rolling_resolver.specs.Rests.{AllRestOn, KeepsAnswers}
-use Rattle.rolling_resolver.specs.Rolling.{Begins, CarriesOn, GenerationView, Renews, RollingView, begins, older_seat, stays}
+use Rattle.rolling_resolver.specs.Rolling.{Begins, CarriesOn, GenerationView, IsMark, Renews, RollingView, begins, older_seat, other_mark, stays}
 use Rattle.rolling_resolver.proofs.Resting.{begun-keeps}
 
 -- the older generation may be let go of, and then one may begin
@@ -33,3 +33,8 @@ renews-still old middle new (begins it) same before = begins (record {
   carries = subst (CarriesOn old.current.seat) (sym same) it.carries;
   older = before ∙ it.older;
 })
+
+-- the other mark of the other one is the mark
+pub mark-back : (mark : ℕ) → IsMark mark → mark ≡ other_mark (other_mark mark)
+mark-back mark (inl is) = rw is refl
+mark-back mark (inr is) = rw is refl

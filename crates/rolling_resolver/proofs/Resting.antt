@@ -38,8 +38,8 @@ OlderRests given draining = IfSome draining (λ it. RestsOn given it.seat)
 -- ---- seats
 
 -- nothing is in an empty book
-empty-rests : (given : List (List ℕ)) (limits : Limits) → RestsOn given (begun_generation limits).seat
-empty-rests given limits = record { seen = All-nil (Stored given); offered = All-nil (Handed given) }
+empty-rests : (given : List (List ℕ)) (groups : ℕ) (limits : Limits) → RestsOn given (begun_generation groups limits).seat
+empty-rests given groups limits = record { seen = All-nil (Stored given); offered = All-nil (Handed given) }
 
 module _ (given : List (List ℕ)) (octets : List ℕ) where
   abbrev more : List (List ℕ)
@@ -177,11 +177,11 @@ pub takes-keeps : (ended : Ended) (old new : RollingView) → Takes ended old ne
 takes-keeps ended old new (older out) given it =
     subst (λ (s : RollingView). AllRestOn given s) (sym out.is) (record {
       current = it.current;
-      draining = subst (λ (s : SeatView). RestsOn given s) (sym out.first.seat)
+      draining = subst (λ (s : SeatView). RestsOn given s) (sym (ap (λ (g : GenerationView). g.seat) out.first.others))
           (subst (λ (d : Option GenerationView). OlderRests given d) out.was it.draining);
     })
 takes-keeps ended old new (younger after out is) given it =
-    subst (λ (s : RollingView). AllRestOn given s) (sym is) (current-keeps old after out.seat given it)
+    subst (λ (s : RollingView). AllRestOn given s) (sym is) (current-keeps old after (ap (λ (g : GenerationView). g.seat) out.others) given it)
 
 tells-keeps : (old new : RollingView) → Tells old new → KeepsAnswers old new
 tells-keeps old new tells given it =
@@ -209,5 +209,5 @@ receives-gains over octets now heard old new (older before after was it is) give
     })
 
 -- nothing is in the books at first
-pub begun-rests : (limits : Limits) → AllRestOn [] (begun_rolling limits)
-begun-rests limits = record { current = empty-rests [] limits; draining = tt }
+pub begun-rests : (groups : ℕ) (limits : Limits) → AllRestOn [] (begun_rolling groups limits)
+begun-rests groups limits = record { current = empty-rests [] groups limits; draining = tt }

@@ -1,25 +1,24 @@
 //! A resolver core over a book of its own.
-ghost use Rattle.std.specs.Prelude.{◌≡◌, [], ℕ, ◌+◌, ◌↔◌, ◌≤◌, ◌%◌, ⊤, IfErr, IfNone, IfOk, IfSome, IsTrue, OnErr, OnOk, length, take};
+ghost use Rattle.std.specs.Prelude.{◌≡◌, [], ℕ, ◌+◌, ◌↔◌, ◌<◌, ◌≤◌, ⊤, IfErr, IfNone, IfOk, IfSome, IsTrue, OnErr, OnOk, length, take};
 ghost use Rattle.std.specs.Bool.{OnFalse};
 ghost use Rattle.std.specs.List.{Contains};
-ghost use Rattle.answer_cache.specs.Lists.{IsListSeat};
+ghost use Rattle.answer_cache.specs.Lists.{IsGroupCount, IsListSeat, seat_at};
 ghost use Rattle.sip_resolver.specs.Cancels.{requests_without};
 ghost use Rattle.sip_resolver.specs.Expiries.{timeouts_of};
-ghost use Rattle.sip_resolver.specs.Idle.{IsOut};
 ghost use Rattle.sip_resolver.specs.Questions.{IsLeast, count_out};
 ghost use Rattle.sip_resolver.specs.Outcomes.{Sought};
 ghost use Rattle.sip_resolver.specs.Requests.{AreSame, Stand, count_of, numbers_of};
-ghost use Rattle.sip_resolver.specs.Resolvers.{RefusesSubmit, with_request};
+ghost use Rattle.sip_resolver.specs.Resolvers.{HasRoomFor, RefusesSubmit, with_request};
 ghost use Rattle.srv_choice.specs.Draws.{words_of};
 ghost use Rattle.rolling_resolver.specs.Inside.{weight_of, weight_with};
-ghost use Rattle.rolling_resolver.specs.Rolling.{CarriesOn, IsWritten, Learns, TakesOut, begun_generation};
+ghost use Rattle.rolling_resolver.specs.Rolling.{CarriesOn, GivesUp, Holds, IsMark, IsOutOf, IsQuiet, IsWritten, Learns, TakesOut, begun_generation, other_mark};
 
 use crate::instant::Instant;
 use answer_cache::{ListCache, ListSeat};
 use dns_answers::Moment;
 use rand_chacha::ChaCha20Rng;
 use sip_resolver::{
-    DnsTransport, Limits, NoFacts, RandomIds, ReplyOutcome, Resolved, Resolver, SubmitRefusal,
+    DnsTransport, Ids, Limits, NoFacts, RandomIds, ReplyOutcome, Resolved, Resolver, SubmitRefusal,
     random_ids,
 };
 use sip_selection::{Caps, Request};
@@ -27,18 +26,21 @@ use srv_choice::RandomWords;
 use std::alloc::{AllocError, Global};
 use std::marker::Model;
 
+/// What draws the ids of queries.
+pub type QueryIds = RandomIds<ChaCha20Rng>;
+
 /// The resolver core over the book of one thread.
-type Core = Resolver<ListCache, NoFacts, RandomIds<ChaCha20Rng>>;
+type Core = Resolver<ListCache, NoFacts, QueryIds>;
 
 /// A request that ended, with what became of it.
 pub type Ended = Resolved<ListCache>;
 
-/// With so many answers a generation is left: of 64 groups of 128 its book has hardly one that is
-/// full by then.
-const ANSWERS: usize = 6_144;
+/// With so many answers for each group of its book a generation is left: of groups of 128 hardly
+/// one is full by then.
+const ANSWERS: usize = 96;
 
-/// Where no more answers than these live, the generation after it begins with them.
-const CARRIED: usize = 4_096;
+/// Where no more answers than these live for each group, the generation after it begins with them.
+const CARRIED: usize = 64;
 
 /// How many ids of queries there are.
 const IDS: u32 = 65_536;
@@ -48,7 +50,7 @@ const IDS: u32 = 65_536;
 pub struct Sent {
     /// So many octets it has.
     pub length: usize,
-    /// What names its query for `give_up`: its id, and the mark of its generation.
+    /// What names its query for `give_up`: the mark of its generation, and its id.
     pub query: u32,
     /// Over what it goes.
     pub over: DnsTransport,
@@ -66,61 +68,63 @@ pub(crate) struct Generation {
     answers: usize,
     /// The second of the last reply, if one came.
     heard: Option<Moment>,
-    /// What sets the names of its queries apart from those of the next generation.
+    /// What sets the names of its queries apart from those of the next generation: 0 or `IDS`.
     mark: u32,
 }
 
 impl Model for Generation {
-    ghost use Rattle.rolling_resolver.specs.Rolling.{GenerationView, Holds};
+    ghost use Rattle.rolling_resolver.specs.Rolling.{GenerationView, Holds, IsMark};
 
     ghost Value = { GenerationView };
 
-    ghost view = { λ it. record { core = it.core; seat = it.seat } };
+    ghost view = { λ it. record { core = it.core; seat = it.seat; mark = it.mark } };
 
-    ghost invariant = { λ it. Holds it.seat it.core };
+    ghost invariant = { λ it. Holds it.seat it.core × IsMark it.mark };
+}
+
+/// An empty book of so many groups, and its seat.
+fn empty_book(alloc: Global, groups: u32) -> (ListCache, ListSeat)
+    requires { IsGroupCount groups }
+    ensures seat { result.1 ≡ seat_at groups [] [] }
+    ensures is { IsListSeat result.1 }
+{
+    ListCache::with_groups(alloc, groups).unwrap()
 }
 
 impl Generation {
-    /// One in which no request is, over an empty book. The ids of its queries come of this seed and
-    /// number.
-    pub(crate) fn new(
+    /// The first one, in which no request is, over an empty book of so many groups. The ids of its
+    /// queries come of this seed.
+    pub(crate) fn first(
         alloc: Global,
         limits: Limits,
+        groups: u32,
         seed: [u8; 32],
-        number: u64,
     ) -> Result<Generation, AllocError>
         requires requests { (1 ≤ limits.requests) × (limits.requests ≤ 65536) }
         requires questions { (1 ≤ limits.questions) × (limits.questions ≤ 4096) }
-        ensures { IfOk result (λ it. it ≡ begun_generation limits) }
+        requires groups { IsGroupCount groups }
+        ensures { IfOk result (λ it. it ≡ begun_generation groups limits) }
     {
-        let (book, seat) = ListCache::new(alloc);
-        Generation::over(alloc, limits, seed, number, book, seat)
+        let books = empty_book(alloc, groups);
+        let core = Resolver::new(alloc, limits, random_ids(seed, 0))?;
+        Ok(Generation::over(core, books, 0))
     }
 
-    /// The same over this book.
-    fn over(
-        alloc: Global,
-        limits: Limits,
-        seed: [u8; 32],
-        number: u64,
-        book: ListCache,
-        seat: ListSeat,
-    ) -> Result<Generation, AllocError>
-        requires requests { (1 ≤ limits.requests) × (limits.requests ≤ 65536) }
-        requires questions { (1 ≤ limits.questions) × (limits.questions ≤ 4096) }
-        requires seated { IsListSeat seat }
-        ensures core { IfOk result (λ it. it.core ≡ (begun_generation limits).core) }
-        ensures seat { IfOk result (λ it. it.seat ≡ seat) }
+    /// A core over this book, with this mark.
+    fn over(core: Core, books: (ListCache, ListSeat), mark: u32) -> Generation
+        requires holds { Holds books.1 core }
+        requires mark { IsMark mark }
+        ensures { result ≡ record { core = core; seat = books.1; mark = mark } }
     {
-        let core = Resolver::new(alloc, limits, random_ids(seed, number))?;
-        Ok(Generation {
+        let (book, seat) = books;
+        Generation {
             core,
             book,
             answers: seat.store_count(),
             seat,
             heard: None,
-            mark: if number % 2 == 0 { 0 } else { IDS },
-        })
+            mark,
+        }
     }
 
     /// The one that comes after it, in which no request is. Its book has the answers of this one
@@ -134,31 +138,36 @@ impl Generation {
     ) -> Result<Generation, AllocError>
         requires requests { (1 ≤ limits.requests) × (limits.requests ≤ 65536) }
         requires questions { (1 ≤ limits.questions) × (limits.questions ≤ 4096) }
-        ensures core { IfOk result (λ it. it.core ≡ (begun_generation limits).core) }
+        ensures core { IfOk result
+            (λ it. it.core ≡ (begun_generation self.now.seat.groups limits).core) }
         ensures seat { IfOk result (λ it. CarriesOn self.now.seat it.seat) }
+        ensures back { IfOk result (λ it. self.now.mark ≡ other_mark it.mark) }
     {
-        let (book, seat) = self.book_after(alloc)?;
-        Generation::over(alloc, limits, seed, number, book, seat)
+        let books = self.book_after(alloc)?;
+        let core = Resolver::new(alloc, limits, random_ids(seed, number))?;
+        Ok(Generation::over(core, books, IDS - self.mark))
     }
 
     /// The book of the one that comes after it.
     fn book_after(&self, alloc: Global) -> Result<(ListCache, ListSeat), AllocError>
         ensures seated { IfOk result (λ it. IsListSeat it.1) }
+        ensures groups { IfOk result (λ it. IsGroupCount it.1.groups) }
         ensures seat { IfOk result (λ it. CarriesOn self.now.seat it.1) }
     {
+        let groups = self.seat.groups();
         let Some(heard) = self.heard else {
-            return Ok(ListCache::new(alloc));
+            return Ok(empty_book(alloc, groups));
         };
         let (book, seat) = ListCache::successor(alloc, &self.seat, heard)?;
-        if seat.store_count() > CARRIED {
-            return Ok(ListCache::new(alloc));
+        if seat.store_count() > CARRIED * groups as usize {
+            return Ok(empty_book(alloc, groups));
         }
         Ok((book, seat))
     }
 
     /// Whether its book may soon be full.
     pub(crate) fn is_old(&self) -> bool {
-        self.answers >= ANSWERS
+        self.answers >= ANSWERS * self.seat.groups() as usize
     }
 
     /// Whether no request is inside, also none whose outcome was not taken.
@@ -210,6 +219,7 @@ impl Generation {
         ensures submitted { OnOk result (self.new ≡ record self.old {
           core = with_request number request caps (words_of words.now) until self.old.core;
         }) }
+        ensures room { OnOk result (HasRoomFor self.old.core number) }
         ensures refused { IfErr result (RefusesSubmit self.old.core number) }
         ensures unchanged { OnErr result (self.new ≡ self.old) }
     {
@@ -224,7 +234,7 @@ impl Generation {
         ensures gone { Contains (numbers_of self.new.core.requests) number → ⊥ }
         ensures kept { (h : Sought → ℕ) → weight_of h self.old
             ≡ weight_of h self.new + weight_with h number self.old }
-        ensures seat { self.new.seat ≡ self.old.seat }
+        ensures others { self.new ≡ record self.old { core = self.new.core } }
         ensures unchanged { OnFalse result (self.new ≡ self.old) }
     {
         self.core.cancel(number)
@@ -232,10 +242,11 @@ impl Generation {
 
     /// Writes what is to be sent next into a buffer, if it has room for it.
     pub(crate) fn transmit(&mut self, at: &Instant, octets: &mut [u8]) -> Option<Sent>
-        ensures written { IfSome result
-            (λ sent. IsWritten sent octets.new self.new.core.questions) }
+        ensures written { IfSome result (λ sent. IsWritten sent octets.new self.new) }
+        ensures quiet { IfNone result (IsQuiet ⟦<QueryIds as Ids>⟧.draws at.now.second
+            (length octets.old) self.new) }
         ensures same { AreSame self.old.core.requests self.new.core.requests }
-        ensures seat { self.new.seat ≡ self.old.seat }
+        ensures others { self.new ≡ record self.old { core = self.new.core } }
     {
         let mark = self.mark;
         transmit(&mut self.core, &self.book, &mut self.seat, at, mark, octets)
@@ -264,17 +275,18 @@ impl Generation {
     }
 
     /// Ends the wait for the reply to the question of this query, which no server takes, and says
-    /// whether one was out.
+    /// whether it was out.
     pub(crate) fn give_up(&mut self, query: u32) -> bool
-        ensures found { IsTrue result → IsOut (query % 65536) self.old.core.questions }
+        ensures found { IsTrue result → GivesUp query self.old self.new }
+        ensures none { OnFalse result (IsOutOf query self.old → ⊥) }
         ensures same { AreSame self.old.core.requests self.new.core.requests }
-        ensures seat { self.new.seat ≡ self.old.seat }
+        ensures others { self.new ≡ record self.old { core = self.new.core } }
         ensures unchanged { OnFalse result (self.new ≡ self.old) }
     {
-        if query - query % IDS != self.mark {
+        if query < self.mark || query - self.mark >= IDS {
             return false;
         }
-        self.core.close((query % IDS) as u16)
+        self.core.close((query - self.mark) as u16)
     }
 
     /// The second at which there is something to do next, if nothing else happens.
@@ -305,16 +317,20 @@ fn transmit(
 ) -> Option<Sent>
     requires made_here { IsListSeat seat.old }
     requires stand { Stand (λ _. ⊤) (λ _. ⊤) seat.old core.old.requests }
+    requires mark { IsMark mark }
     ensures stays { IsListSeat seat.new }
     ensures stand { Stand (λ _. ⊤) (λ _. ⊤) seat.new core.new.requests }
-    ensures written { IfSome result (λ sent. IsWritten sent octets.new core.new.questions) }
+    ensures written { IfSome result (λ sent. IsWritten sent octets.new
+        (record { core = core.new; seat = seat.new; mark = mark })) }
+    ensures quiet { IfNone result (IsQuiet ⟦<QueryIds as Ids>⟧.draws at.now.second
+        (length octets.old) (record { core = core.new; seat = seat.new; mark = mark })) }
     ensures same { AreSame core.old.requests core.new.requests }
     ensures unchanged { seat.new ≡ seat.old }
 {
     let message = core.poll_transmit(book, seat, at.second, at.asked)?;
     let length = write_into(octets, message.octets)?;
     let (over, send) = (message.over, message.send);
-    let query = mark.wrapping_add(u32::from(id_of(message.octets)));
+    let query = mark + u32::from(message.id);
     Some(Sent {
         length,
         query,
@@ -323,17 +339,11 @@ fn transmit(
     })
 }
 
-/// The id of a message (RFC 1035 4.1.1).
-fn id_of(octets: &[u8]) -> u16 {
-    match octets {
-        [high, low, ..] => u16::from(*high) * 256 + u16::from(*low),
-        _ => 0,
-    }
-}
-
 /// Writes octets into the front of a buffer, and gives their number; None where they don't fit.
 fn write_into(buffer: &mut [u8], octets: &[u8]) -> Option<usize>
-    ensures { IfSome result (λ n. (n ≡ length octets.now) × (take n buffer.new ≡ octets.now)) }
+    ensures written { IfSome result
+        (λ n. (n ≡ length octets.now) × (take n buffer.new ≡ octets.now)) }
+    ensures room { IfNone result (length buffer.old < length octets.now) }
 {
     let count = octets.len();
     if buffer.len() < count {

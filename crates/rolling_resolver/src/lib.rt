@@ -16,8 +16,9 @@ mod instant;
 mod laws;
 mod resolver;
 
+pub use answer_cache::is_group_count;
 pub use counts::Stats;
-pub use generation::{Ended, Sent};
+pub use generation::{Ended, QueryIds, Sent};
 pub use instant::{Instant, instant_of, left_until};
 pub use laws::law_may_change_threads;
 pub use resolver::RollingResolver;

@@ -1,24 +1,25 @@
 //! A resolver whose book begins anew before it is full.
-ghost use Rattle.std.specs.Prelude.{◌≡◌, ◌↔◌, ◌≤◌, ◌+◌, ◌⊎◌, ℕ, [], None, false, IsSomeAnd, IsTrue, MatchOption, Some, IfErr, IfNone, IfOk, IfSome, OnErr, OnOk, length, take};
+ghost use Rattle.std.specs.Prelude.{◌≡◌, ◌↔◌, ◌≤◌, ◌+◌, ◌⊎◌, ℕ, [], None, false, IsSomeAnd, IsTrue, MatchOption, Some, IfErr, IfNone, IfOk, IfSome, OnErr, OnOk, length};
 ghost use Rattle.std.specs.Bool.{OnFalse};
 ghost use Rattle.std.specs.List.{Contains};
+ghost use Rattle.answer_cache.specs.Lists.{IsGroupCount};
 ghost use Rattle.dns_queries.specs.declared.incoming.Why.{Why};
 ghost use Rattle.sip_resolver.specs.Outcomes.{Sought};
 ghost use Rattle.sip_resolver.specs.Questions.{IsLeast, count_out};
 ghost use Rattle.sip_resolver.specs.Requests.{count_of, numbers_of};
 ghost use Rattle.sip_resolver.specs.declared.resolver.ReplyOutcome.TheVariants.{Ignored};
-ghost use Rattle.rolling_resolver.specs.Inside.{GainsOne, LosesNumber, SameInside, weight_of, weight_with};
+ghost use Rattle.rolling_resolver.specs.Inside.{GainsOne, LosesNumber, RefusesRequest, SameInside, count_inside, weight_of, weight_with};
 ghost use Rattle.rolling_resolver.specs.Rests.{AllRestOn, GainsFrom, KeepsAnswers, TellsOf};
-ghost use Rattle.rolling_resolver.specs.Rolling.{Begins, HasNone, HasNoneOlder, HasRequest, IsQueryOf, Receives, ReceivesOlder, Renews, SameSeats, Takes, TakesIn, TakesOlder, Tells, begun_rolling, dues_in, older_dues, older_seat};
+ghost use Rattle.rolling_resolver.specs.Rolling.{AreQuiet, Begins, GivesUpOf, GivesUpOlder, HasNone, HasNoneOlder, HasRequest, IsOutOf, IsQueryOut, IsQuiet, IsWrittenOf, Receives, ReceivesOlder, Renews, SameSeats, Takes, TakesIn, TakesOlder, Tells, begun_rolling, dues_in, older_dues, older_seat};
 ghost use Rattle.rolling_resolver.specs.Stats.{AreCounted, of_older};
 
 use crate::counts::{Counts, Stats};
-use crate::generation::{Ended, Generation, Sent};
+use crate::generation::{Ended, Generation, QueryIds, Sent};
 use crate::instant::Instant;
 use dns_answers::Moment;
 use dns_message::law_same_questions_are_equal;
 use dns_queries::Why;
-use sip_resolver::{DnsTransport, Limits, ReplyOutcome, SubmitRefusal, least_of};
+use sip_resolver::{DnsTransport, Ids, Limits, ReplyOutcome, SubmitRefusal, least_of};
 use sip_selection::{Caps, Request};
 use srv_choice::RandomWords;
 use std::alloc::{AllocError, Global};
@@ -37,8 +38,6 @@ pub struct RollingResolver {
     drawn: u64,
     /// How many generations began.
     begun: u64,
-    /// How many requests are inside, in both generations.
-    inside: usize,
     /// Requests that come in go to this one.
     current: Generation,
     /// The one before it, while requests are inside.
@@ -48,8 +47,8 @@ pub struct RollingResolver {
 }
 
 impl Model for RollingResolver {
-    ghost use Rattle.std.specs.Prelude.{◌≤◌};
-    ghost use Rattle.rolling_resolver.specs.Rolling.{AreInRange, RollingView};
+    ghost use Rattle.std.specs.Prelude.{◌≡◌};
+    ghost use Rattle.rolling_resolver.specs.Rolling.{AreApart, AreInRange, RollingView};
 
     ghost Value = { RollingView };
 
@@ -59,25 +58,32 @@ impl Model for RollingResolver {
       draining = it.draining;
     } };
 
-    ghost invariant = { λ it. AreInRange it.limits × (it.inside ≤ it.limits.requests) };
+    ghost invariant = { λ it. AreInRange it.limits
+        × (it.current.core.requests.limit ≡ it.limits.requests)
+        × AreApart it.current it.draining };
 }
 
 impl RollingResolver {
-    /// A resolver in which no request is, over an empty book. The ids of its queries and its random
-    /// words come of this seed.
-    pub fn new(alloc: Global, limits: Limits, seed: [u8; 32]) -> Result<RollingResolver, AllocError>
+    /// A resolver in which no request is, over an empty book of so many groups, a power of two from
+    /// 64 to 65,536. The ids of its queries and its random words come of this seed.
+    pub fn new(
+        alloc: Global,
+        limits: Limits,
+        groups: u32,
+        seed: [u8; 32],
+    ) -> Result<RollingResolver, AllocError>
         requires requests { (1 ≤ limits.requests) × (limits.requests ≤ 65536) }
         requires questions { (1 ≤ limits.questions) × (limits.questions ≤ 4096) }
-        ensures begun { IfOk result (λ it. it ≡ begun_rolling limits) }
+        requires groups { IsGroupCount groups }
+        ensures begun { IfOk result (λ it. it ≡ begun_rolling groups limits) }
         ensures answers { IfOk result (λ it. AllRestOn [] it) }
     {
-        let current = Generation::new(alloc, limits, seed, 0)?;
+        let current = Generation::first(alloc, limits, groups, seed)?;
         Ok(RollingResolver {
             limits,
             seed,
             drawn: 0,
             begun: 1,
-            inside: 0,
             current,
             draining: None,
             told: None,
@@ -89,14 +95,16 @@ impl RollingResolver {
     pub fn boxed(
         alloc: Global,
         limits: Limits,
+        groups: u32,
         seed: [u8; 32],
     ) -> Result<Box<RollingResolver>, AllocError>
         requires requests { (1 ≤ limits.requests) × (limits.requests ≤ 65536) }
         requires questions { (1 ≤ limits.questions) × (limits.questions ≤ 4096) }
-        ensures begun { IfOk result (λ it. it.value ≡ begun_rolling limits) }
+        requires groups { IsGroupCount groups }
+        ensures begun { IfOk result (λ it. it.value ≡ begun_rolling groups limits) }
         ensures answers { IfOk result (λ it. AllRestOn [] it.value) }
     {
-        let resolver = RollingResolver::new(alloc, limits, seed)?;
+        let resolver = RollingResolver::new(alloc, limits, groups, seed)?;
         match Box::new(alloc, resolver) {
             Ok(resolver) => Ok(resolver),
             Err(refused) => {
@@ -187,12 +195,13 @@ impl RollingResolver {
         ensures told { self.new.told ≡ self.old.told }
         ensures taken_in { OnOk result (TakesIn number request caps until self.new) }
         ensures gains { OnOk result (GainsOne number request caps until self.old self.new) }
+        ensures refused { IfErr result (RefusesRequest self.new number) }
         ensures inside { OnErr result (SameInside self.old self.new) }
         ensures renews { Renews self.old self.new }
         ensures answers { KeepsAnswers self.old self.new }
     {
         self.renew(alloc);
-        if self.inside >= self.limits.requests {
+        if self.request_count() >= self.limits.requests {
             return Err(SubmitRefusal::Full);
         }
         if self.has_older(number) {
@@ -204,7 +213,6 @@ impl RollingResolver {
         };
         self.drawn = self.drawn.wrapping_add(1) % DRAWS;
         self.current.submit(number, request, caps, &words, until)?;
-        self.inside += 1;
         Ok(())
     }
 
@@ -228,22 +236,6 @@ impl RollingResolver {
         }
     }
 
-    /// Cancels the request of this number in both generations, and says whether there was one.
-    fn cancel_both(&mut self, number: u64) -> bool
-        ensures told { self.new.told ≡ self.old.told }
-        ensures found { IsTrue result ↔ HasRequest number self.old }
-        ensures gone { HasRequest number self.new → ⊥ }
-        ensures kept { LosesNumber number self.old self.new }
-        ensures seats { SameSeats self.old self.new }
-        ensures unchanged { OnFalse result (self.new ≡ self.old) }
-    {
-        let younger = self.current.cancel(number);
-        if self.cancel_older(number) {
-            return true;
-        }
-        younger
-    }
-
     /// Cancels the request of this number, and says whether there was one.
     pub fn cancel(&mut self, number: u64) -> bool
         ensures told { self.new.told ≡ self.old.told }
@@ -254,18 +246,20 @@ impl RollingResolver {
         ensures unchanged { OnFalse result (self.new ≡ self.old) }
         ensures answers { KeepsAnswers self.old self.new }
     {
-        if !self.cancel_both(number) {
-            return false;
+        let younger = self.current.cancel(number);
+        if self.cancel_older(number) {
+            return true;
         }
-        self.inside = self.inside.saturating_sub(1);
-        true
+        younger
     }
 
     /// Writes what the older generation sends next into a buffer.
     fn transmit_older(&mut self, at: &Instant, octets: &mut [u8]) -> Option<Sent>
         ensures told { self.new.told ≡ self.old.told }
-        ensures query { IfSome result (λ sent.
-            IsQueryOf sent.over sent.send (take sent.length octets.new) self.new) }
+        ensures current { self.new.current ≡ self.old.current }
+        ensures query { IfSome result (λ sent. IsWrittenOf sent octets.new self.new) }
+        ensures quiet { IfNone result (IfSome self.new.draining
+            (IsQuiet ⟦<QueryIds as Ids>⟧.draws at.now.second (length octets.old))) }
         ensures seats { SameSeats self.old self.new }
         ensures inside { SameInside self.old self.new }
     {
@@ -278,8 +272,9 @@ impl RollingResolver {
     /// Writes what either generation sends next into a buffer.
     fn transmit_both(&mut self, at: &Instant, octets: &mut [u8]) -> Option<Sent>
         ensures told { self.new.told ≡ self.old.told }
-        ensures query { IfSome result (λ sent.
-            IsQueryOf sent.over sent.send (take sent.length octets.new) self.new) }
+        ensures query { IfSome result (λ sent. IsWrittenOf sent octets.new self.new) }
+        ensures quiet { IfNone result
+            (AreQuiet ⟦<QueryIds as Ids>⟧.draws at.now.second (length octets.old) self.new) }
         ensures seats { SameSeats self.old self.new }
         ensures inside { SameInside self.old self.new }
     {
@@ -292,8 +287,9 @@ impl RollingResolver {
     /// Writes what is to be sent next into a buffer, and counts it.
     pub fn transmit(&mut self, at: &Instant, octets: &mut [u8]) -> Option<Sent>
         ensures told { self.new.told ≡ self.old.told }
-        ensures query { IfSome result (λ sent.
-            IsQueryOf sent.over sent.send (take sent.length octets.new) self.new) }
+        ensures query { IfSome result (λ sent. IsWrittenOf sent octets.new self.new) }
+        ensures quiet { IfNone result
+            (AreQuiet ⟦<QueryIds as Ids>⟧.draws at.now.second (length octets.old) self.new) }
         ensures seats { SameSeats self.old self.new }
         ensures inside { SameInside self.old self.new }
         ensures answers { KeepsAnswers self.old self.new }
@@ -337,6 +333,13 @@ impl RollingResolver {
         }
     }
 
+    /// How many requests are inside both generations, also those whose outcome was not taken.
+    fn request_count(&self) -> usize
+        ensures { result ≡ count_inside self.now }
+    {
+        self.current.request_count() + self.older_request_count()
+    }
+
     /// What is counted of it.
     pub fn stats(&self) -> Stats
         ensures { AreCounted result self.now }
@@ -344,7 +347,7 @@ impl RollingResolver {
         let answers = self.current.answer_count() as u64;
         Stats {
             answers: answers.saturating_add(self.older_answer_count() as u64),
-            requests: (self.current.request_count() + self.older_request_count()) as u64,
+            requests: self.request_count() as u64,
             questions: (self.current.question_count() + self.older_question_count()) as u64,
             queries: self.counts.queries,
             replies: self.counts.replies,
@@ -410,9 +413,11 @@ impl RollingResolver {
     }
 
     /// Ends the wait for the reply to the question of this query of the older generation, and says
-    /// whether one was out.
+    /// whether it was out.
     fn give_up_older(&mut self, query: u32) -> bool
         ensures told { self.new.told ≡ self.old.told }
+        ensures gives_up { IsTrue result → GivesUpOlder query self.old self.new }
+        ensures none { OnFalse result (IsSomeAnd self.old.draining (IsOutOf query) → ⊥) }
         ensures seats { SameSeats self.old self.new }
         ensures inside { SameInside self.old self.new }
         ensures unchanged { OnFalse result (self.new ≡ self.old) }
@@ -424,9 +429,11 @@ impl RollingResolver {
     }
 
     /// Ends the wait for the reply to the question of this query, which no server takes, and says
-    /// whether one was out.
+    /// whether it was out.
     pub fn give_up(&mut self, query: u32) -> bool
         ensures told { self.new.told ≡ self.old.told }
+        ensures gives_up { IsTrue result → GivesUpOf query self.old self.new }
+        ensures none { OnFalse result (IsQueryOut query self.old → ⊥) }
         ensures seats { SameSeats self.old self.new }
         ensures inside { SameInside self.old self.new }
         ensures unchanged { OnFalse result (self.new ≡ self.old) }
@@ -490,7 +497,6 @@ impl RollingResolver {
             return false;
         };
         self.told = Some(ended);
-        self.inside = self.inside.saturating_sub(1);
         true
     }
 

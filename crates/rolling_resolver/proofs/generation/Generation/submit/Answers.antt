@@ -1,7 +1,11 @@
 use Rattle.rolling_resolver.proofs.generation.Generation.submit.Goals as goal
 
 pub invariant_of-self : goal.invariant_of-self
-invariant_of-self c = record {
-  seated = c.self.invariant.seated;
-  stand = c.submit.ensures.stand c.self.inside.seat c.self.invariant.stand;
-}
+invariant_of-self c = (
+  record {
+    seated = c.self.invariant.0.seated;
+    groups = c.self.invariant.0.groups;
+    stand = c.submit.ensures.stand c.self.inside.seat c.self.invariant.0.stand;
+  },
+  c.self.invariant.1,
+)

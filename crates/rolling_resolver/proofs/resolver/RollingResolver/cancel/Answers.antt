@@ -1,7 +1,7 @@
 use Rattle.std.proofs.Common.{ap, ◌∙◌}
 use Rattle.rolling_resolver.specs.Rolling.{GenerationView}
 use Rattle.rolling_resolver.proofs.Cancelling.{found-older, found-younger, none-inside, unchanged-after}
-use Rattle.rolling_resolver.proofs.resolver.RollingResolver.cancel_both.Goals as goal
+use Rattle.rolling_resolver.proofs.resolver.RollingResolver.cancel.Goals as goal
 
 pub returns-then-cancel_older-clause-found : goal.returns-then-cancel_older-clause-found
 returns-then-cancel_older-clause-found c =
@@ -15,7 +15,8 @@ returns-then-cancel_older-clause-gone c =
 pub returns-then-cancel_older-clause-seats : goal.returns-then-cancel_older-clause-seats
 returns-then-cancel_older-clause-seats c =
     rw (← c.self.view_is) (record {
-      current = ap (λ (g : GenerationView). g.seat) c.cancel_older.ensures.current ∙ c.cancel-younger.ensures.seat;
+      current = ap (λ (g : GenerationView). g.seat) c.cancel_older.ensures.current
+          ∙ ap (λ (g : GenerationView). g.seat) c.cancel-younger.ensures.others;
       draining = c.cancel_older.ensures.seat;
     })
 
@@ -33,7 +34,8 @@ returns-clause-gone c =
 pub returns-clause-seats : goal.returns-clause-seats
 returns-clause-seats c =
     rw (← c.self.view_is) (record {
-      current = ap (λ (g : GenerationView). g.seat) c.cancel_older.ensures.current ∙ c.cancel-younger.ensures.seat;
+      current = ap (λ (g : GenerationView). g.seat) c.cancel_older.ensures.current
+          ∙ ap (λ (g : GenerationView). g.seat) c.cancel-younger.ensures.others;
       draining = c.cancel_older.ensures.seat;
     })
 
