@@ -4,7 +4,7 @@
 
 #include "wokhleas.h"
 
-int32_t wokhleas_raw_open(wokhleas_resolver *resolver, size_t requests, size_t questions, bool streams,
+int32_t wokhleas_raw_open(wokhleas_resolver *resolver, size_t requests, size_t questions, bool streams, size_t groups,
                           const uint8_t *seed);
 void wokhleas_raw_close(wokhleas_resolver *resolver);
 int32_t wokhleas_raw_submit(wokhleas_resolver *resolver, uint64_t number, const uint8_t *text, size_t length,

@@ -12,7 +12,7 @@ static uint8_t *written_to(void *octets) { return octets != NULL ? octets : no_o
 
 int wokhleas_open(wokhleas_resolver *resolver, const wokhleas_limits *limits, const uint8_t seed[32]) {
     if (resolver == NULL || limits == NULL || seed == NULL) return WOKHLEAS_EARGUMENT;
-    return wokhleas_raw_open(resolver, limits->requests, limits->questions, limits->streams, seed);
+    return wokhleas_raw_open(resolver, limits->requests, limits->questions, limits->streams, limits->groups, seed);
 }
 
 void wokhleas_close(wokhleas_resolver *resolver) {

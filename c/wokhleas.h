@@ -3,8 +3,8 @@
  * The library does no input or output: it opens no socket, reads no clock, starts no thread, has no global state and
  * takes no callback. The caller hands it requests, octets that came in and times, and takes octets to send and
  * outcomes. It keeps the answers that it got while they live, and asks a question that many requests ask at once only
- * once. When it has 6,144 it goes on with those that still live, where these are 4,096 or fewer, and else with none;
- * requests that are inside end by those that it had.
+ * once. With so many groups as wokhleas_limits says, it has at most 96 answers for each when it goes on with those that
+ * still live, where these are at most 64 for each, and else with none; requests that are inside end by those that it had.
  *
  * A loop over one resolver:
  *
@@ -74,10 +74,12 @@ typedef struct wokhleas_limits {
     size_t requests;  /* the most requests that are inside, from 1 to 65,536 */
     size_t questions; /* the most questions that are out over datagrams, and over streams, from 2 to 8,192 */
     bool streams;     /* whether the caller asks over TCP where a reply was cut; else requests that need it end */
+    size_t groups;    /* of how many groups the cache is, a power of two from 64 to 65,536: room for 64 answers that live
+                       * in each, so for 4,096 to 4,194,304 */
 } wokhleas_limits;
 
 /* Half of the questions are kept for the time when the cache has begun anew, and requests with both are inside. */
-#define WOKHLEAS_LIMITS_INIT { 1024, 512, true }
+#define WOKHLEAS_LIMITS_INIT { 1024, 512, true, 64 }
 
 /* Opens a closed resolver. The 32 octets of the seed come from the system's source of random octets, as getrandom(2):
  * the ids of queries and the order of SRV records of one priority come of them (RFC 5452 9.2, RFC 2782).

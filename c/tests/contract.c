@@ -150,6 +150,8 @@ static void test_closing(void) {
     wokhleas_close(&resolver);
 }
 
+static const size_t bad_groups[] = { 0, 1, 32, 63, 65, 96, 127, 65535, 65537, 131072, (size_t)1 << 32 | 64, SIZE_MAX };
+
 static void test_opening(void) {
     wokhleas_resolver resolver = WOKHLEAS_RESOLVER_INIT;
     EXPECT_STATUS(open_resolver(&resolver, 0, 2, true), WOKHLEAS_EARGUMENT);
@@ -159,6 +161,12 @@ static void test_opening(void) {
     EXPECT_STATUS(open_resolver(&resolver, 1, 1, false), WOKHLEAS_EARGUMENT);
     EXPECT_STATUS(open_resolver(&resolver, 1, 8193, false), WOKHLEAS_EARGUMENT);
     EXPECT_STATUS(open_resolver(&resolver, 1, SIZE_MAX, false), WOKHLEAS_EARGUMENT);
+    for (size_t at = 0; at < sizeof bad_groups / sizeof *bad_groups; at++)
+        EXPECT_STATUS(open_with_groups(&resolver, 1, 2, false, bad_groups[at]), WOKHLEAS_EARGUMENT);
+    for (size_t groups = 64; groups <= 65536; groups *= 2) {
+        EXPECT_STATUS(open_with_groups(&resolver, 1, 2, false, groups), WOKHLEAS_OK);
+        wokhleas_close(&resolver);
+    }
     expect_closed(&resolver);
     EXPECT_STATUS(open_resolver(&resolver, 65536, 8192, true), WOKHLEAS_OK);
     wokhleas_close(&resolver);

@@ -81,8 +81,12 @@ static void let_go(void *copy, size_t length) {
 }
 
 int open_resolver(wokhleas_resolver *resolver, size_t requests, size_t questions, bool streams) {
+    return open_with_groups(resolver, requests, questions, streams, 64);
+}
+
+int open_with_groups(wokhleas_resolver *resolver, size_t requests, size_t questions, bool streams, size_t groups) {
     uint8_t seed[32] = { 1, 2, 3 };
-    wokhleas_limits limits = { requests, questions, streams };
+    wokhleas_limits limits = { requests, questions, streams, groups };
     int status = wokhleas_open(resolver, &limits, seed);
     fill(seed, sizeof seed);
     fill(&limits, sizeof limits);

@@ -33,6 +33,9 @@ int finish(void);
 /* Opens a resolver with a seed that is the same in each run. */
 int open_resolver(wokhleas_resolver *resolver, size_t requests, size_t questions, bool streams);
 
+/* The same over a cache of so many groups. */
+int open_with_groups(wokhleas_resolver *resolver, size_t requests, size_t questions, bool streams, size_t groups);
+
 int submit(wokhleas_resolver *resolver, uint64_t number, const char *text, const wokhleas_caps *caps, uint64_t until);
 int receive(wokhleas_resolver *resolver, uint64_t now, uint8_t over, const uint8_t *octets, size_t length);
 

@@ -1,7 +1,8 @@
 /* Many requests: first 1,000 are inside at once, each to a domain of its own, and another follows for each that ends;
  * then they come one after the other, over domains in turn. What the library holds has to stay as it is after the first
- * turn, and so, in a run of the usual numbers, has all that the process has. Last, answers that live have to be kept while
- * those of 5,000 other domains come. Replies are made in memory.
+ * turn, and so, in a run of the usual numbers, has all that the process has. Then answers that live have to be kept while
+ * those of 5,000 other domains come. Last, those of 5,000 domains have to be kept that all live, where there are groups
+ * enough for them. Replies are made in memory.
  *
  * usage: many [REQUESTS DOMAINS]     (100000 and 20000, where these are not given) */
 #include "allocations.h"
@@ -204,6 +205,19 @@ static void test_kept(void) {
     EXPECT(octets_held(), 0);
 }
 
+/* With room for them, all answers that live are kept: the second turn asks nothing. */
+static void test_room(size_t domains, size_t groups, bool is_enough) {
+    wokhleas_resolver resolver = WOKHLEAS_RESOLVER_INIT;
+    size_t asked = 0, again = 0;
+    EXPECT_STATUS(open_with_groups(&resolver, INSIDE, QUESTIONS, true, groups), WOKHLEAS_OK);
+    for (unsigned domain = 0; domain < domains; domain++) asked += queries_for(&resolver, NOW, domain, DAY);
+    for (unsigned domain = 0; domain < domains; domain++) again += queries_for(&resolver, NOW, domain, DAY);
+    EXPECT(asked, 3 * domains);
+    EXPECT(again == 0, is_enough);
+    wokhleas_close(&resolver);
+    EXPECT(octets_held(), 0);
+}
+
 int main(int count, char **words) {
     size_t total = count == 3 ? strtoul(words[1], NULL, 10) : 100000;
     size_t domains = count == 3 ? strtoul(words[2], NULL, 10) : 20000;
@@ -214,5 +228,7 @@ int main(int count, char **words) {
     test_at_once(domains);
     test_in_turn(total, domains, count != 3);
     test_kept();
+    test_room(5000, 512, true);
+    test_room(5000, 64, false);
     return finish();
 }

@@ -209,7 +209,7 @@ static void turn(void *arg) {
 static void submit(struct caller *it) {
     static const uint8_t transports[] = { WOKHLEAS_UDP, WOKHLEAS_TCP };
     const wokhleas_caps caps = { transports, 2, sa_af(&it->local) == AF_INET ? WOKHLEAS_V4 : WOKHLEAS_V6 };
-    const wokhleas_limits limits = { 1, 2, false };
+    const wokhleas_limits limits = { 1, 2, false, 64 };
     uint8_t seed[32];
     int status;
     if (getrandom(seed, sizeof seed, 0) != (ssize_t)sizeof seed) fail("getrandom", strerror(errno));

@@ -225,7 +225,7 @@ static struct addrinfo *server_of(char *word) {
 
 int main(int count, char **words) {
     static struct locator it = { .resolver = WOKHLEAS_RESOLVER_INIT, .all_found = true };
-    const wokhleas_limits limits = { REQUESTS, QUESTIONS, true };
+    const wokhleas_limits limits = { REQUESTS, QUESTIONS, true, 64 };
     uint8_t seed[32];
     int status, first = count > 1 && strcmp(words[1], "-v") == 0 ? 2 : 1;
     if (count < first + 2) fail("usage", "locate [-v] SERVER[:PORT] TEXT..");

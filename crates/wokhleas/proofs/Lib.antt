@@ -1,3 +1,4 @@
+pub mod Callers
 pub mod Crossing
 pub mod Handling
 pub mod HeldSteps

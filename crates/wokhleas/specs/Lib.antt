@@ -1,4 +1,5 @@
 pub mod Handles
+pub mod Limits
 pub mod Numbers
 pub mod Requests
 pub mod Statuses

@@ -1,5 +1,6 @@
 -- The numbers that stand for choices in C.
 use Rattle.std.specs.Prelude.{◌≡◌, ℕ, List, false, map}
+use Rattle.sip_selection.specs.Callers.{AreOffered}
 use Rattle.sip_selection.specs.declared.caps.Caps.{Caps}
 use Rattle.sip_selection.specs.declared.caps.Families.{Families}
 use Rattle.sip_selection.specs.declared.caps.Families.TheVariants.{V4, V6, V4ThenV6, V6ThenV4}
@@ -29,6 +30,12 @@ pub record AreCapsOf (transports : List ℕ) (families : ℕ) (caps : Caps) : Ty
   pub families_are : number_of_families caps.families ≡ families
   pub any_size : caps.is_large ≡ false
   pub by_chance : caps.is_fixed ≡ false
+
+-- no caller can have the transports of these numbers, in their order, and the families of this one
+abbrev pub CannotBe : List ℕ → ℕ → Type 0
+CannotBe numbers families =
+    (transports : List Transport) (it : Families) → map number_of transports ≡ numbers
+    → AreOffered transports → number_of_families it ≡ families → ⊥
 
 -- the number of what a message goes over
 abbrev pub number_of_over : DnsTransport → ℕ

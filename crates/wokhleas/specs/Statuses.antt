@@ -18,3 +18,15 @@ code_of Room = 9
 -- that of a call to a resolver that is closed
 abbrev pub closed : ℕ
 closed = code_of Closed
+
+-- that of an argument that is out of its range
+abbrev pub argument : ℕ
+argument = code_of Argument
+
+-- that of a resolver that is to be opened and is open
+abbrev pub opened : ℕ
+opened = code_of Open
+
+-- that of a call for which there is nothing
+abbrev pub nothing : ℕ
+nothing = code_of Nothing

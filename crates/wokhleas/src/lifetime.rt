@@ -1,12 +1,15 @@
 //! A resolver begins and ends.
-ghost use Rattle.std.specs.Prelude.{◌≡◌, ◌≢◌, ◌≤◌, ◌/◌, [], None, Some, IfSome, OnErr, OnOk, pos};
+ghost use Rattle.std.specs.Prelude.{◌≡◌, ◌≢◌, ◌↔◌, ◌⊎◌, ◌≤◌, ◌/◌, [], None, Some, IfErr, IfNone, IfSome, IsSome, OnErr, OnOk, pos};
 ghost use Rattle.sip_resolver.specs.declared.resolver.Limits as limits;
 ghost use Rattle.rolling_resolver.specs.Rests.{AllRestOn};
+ghost use Rattle.answer_cache.specs.Lists.{IsGroupCount};
 ghost use Rattle.rolling_resolver.specs.Rolling.{AreInRange, begun_rolling};
+ghost use Rattle.wokhleas.specs.Limits.{AreCounts, AreLimits};
+ghost use Rattle.wokhleas.specs.Statuses.{argument, opened};
 
 use crate::handle::Handle;
 use crate::status::{DONE, Status};
-use rolling_resolver::RollingResolver;
+use rolling_resolver::{RollingResolver, is_group_count};
 use sip_resolver::Limits;
 use std::alloc::{AllocError, Global};
 
@@ -20,6 +23,8 @@ fn limits_of(requests: usize, questions: usize, streams: bool) -> Option<Limits>
       questions = questions / 2;
       streams = streams;
     }) }
+    ensures in_range { IfSome result (λ _. AreCounts requests questions) }
+    ensures none { IfNone result (AreCounts requests questions → ⊥) }
 {
     if requests < 1 || 65_536 < requests {
         return None;
@@ -34,19 +39,39 @@ fn limits_of(requests: usize, questions: usize, streams: bool) -> Option<Limits>
     })
 }
 
-/// Opens a resolver with these limits and this seed.
-fn open(alloc: Global, handle: &mut Handle, limits: Limits, seed: [u8; 32]) -> Result<(), Status>
+/// Of how many groups a book is; None where it can't be of so many.
+fn groups_of(groups: usize) -> Option<u32>
+    ensures is { IfSome result (λ it. (it ≡ groups) × IsGroupCount it) }
+    ensures none { IfNone result (IsGroupCount groups → ⊥) }
+{
+    let groups = u32::try_from(groups).ok()?;
+    is_group_count(groups).then_some(groups)
+}
+
+/// Opens a resolver with these limits and this seed, over a book of so many groups.
+fn open(
+    alloc: Global,
+    handle: &mut Handle,
+    limits: Limits,
+    groups: u32,
+    seed: [u8; 32],
+) -> Result<(), Status>
     requires requests { (1 ≤ limits.requests) × (limits.requests ≤ 65536) }
     requires questions { (1 ≤ limits.questions) × (limits.questions ≤ 4096) }
+    requires groups { IsGroupCount groups }
     ensures was_closed { OnOk result (handle.old.held.state ≡ None) }
-    ensures begun { OnOk result (handle.new.held.state ≡ Some (begun_rolling limits)) }
+    ensures begun { OnOk result (handle.new.held.state ≡ Some (begun_rolling groups limits)) }
+    ensures refused { IfErr result (λ status. ((status ≡ Status.Open)
+        × IsSome handle.old.held.state) ⊎ ((status ≡ Status.Memory)
+        × (handle.old.held.state ≡ None))) }
+    ensures good { IfErr result (λ status. status ≡ Status.Argument → ⊥) }
     ensures answers { OnOk result (IfSome handle.new.held.state (λ state. AllRestOn [] state)) }
     ensures unchanged { OnErr result (handle.new.held.state ≡ handle.old.held.state) }
 {
     if handle.is_open() {
         return Err(Status::Open);
     }
-    match RollingResolver::boxed(alloc, limits, seed) {
+    match RollingResolver::boxed(alloc, limits, groups, seed) {
         Ok(resolver) => {
             handle.put(resolver);
             Ok(())
@@ -63,20 +88,27 @@ pub extern "C" fn wokhleas_raw_open(
     requests: usize,
     questions: usize,
     streams: bool,
+    groups: usize,
     seed: &[u8; 32],
 ) -> i32
     ensures was_closed { result ≡ pos 0 → handle.old.held.state ≡ None }
     ensures begun { result ≡ pos 0 → (limits : limits.Limits) × AreInRange limits
         × (limits.requests ≡ requests) × (limits.questions ≡ questions / 2)
-        × (limits.streams ≡ streams) × (handle.new.held.state ≡ Some (begun_rolling limits)) }
+        × (limits.streams ≡ streams)
+        × (handle.new.held.state ≡ Some (begun_rolling groups limits)) }
+    ensures in_range { result ≡ pos 0 → AreLimits requests questions groups }
+    ensures argument { result ≡ pos argument → AreLimits requests questions groups → ⊥ }
+    ensures bad { (AreLimits requests questions groups → ⊥) → result ≡ pos argument }
+    ensures open { result ≡ pos opened → IsSome handle.old.held.state }
     ensures answers { result ≡ pos 0
         → IfSome handle.new.held.state (λ state. AllRestOn [] state) }
     ensures unchanged { result ≢ pos 0 → handle.new.held.state ≡ handle.old.held.state }
 {
-    let Some(limits) = limits_of(requests, questions, streams) else {
+    let (Some(limits), Some(groups)) = (limits_of(requests, questions, streams), groups_of(groups))
+    else {
         return Status::Argument.code();
     };
-    match open(alloc, handle, limits, *seed) {
+    match open(alloc, handle, limits, groups, *seed) {
         Ok(()) => DONE,
         Err(status) => status.code(),
     }

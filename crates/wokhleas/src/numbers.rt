@@ -1,5 +1,8 @@
 //! The numbers that stand for choices in C. `wokhleas.h` names them.
-ghost use Rattle.std.specs.Prelude.{◌≡◌, IfSome};
+ghost use Rattle.std.specs.Prelude.{◌≡◌, ◌≤◌, IfNone, IfSome, List, length, map, take};
+ghost use Rattle.sip_resolver.specs.declared.transmit.DnsTransport as over;
+ghost use Rattle.sip_selection.specs.declared.caps.Families as families;
+ghost use Rattle.sip_uri.specs.declared.transport.Transport as transports;
 ghost use Rattle.wokhleas.specs.Numbers as spec;
 ghost use Rattle.wokhleas.specs.Told as told;
 
@@ -21,7 +24,8 @@ pub(crate) fn number_of(transport: Transport) -> u8
 
 /// The transport of a number.
 fn transport_of(number: u8) -> Option<Transport>
-    ensures { IfSome result (λ transport. spec.number_of transport ≡ number) }
+    ensures is { IfSome result (λ transport. spec.number_of transport ≡ number) }
+    ensures none { IfNone result ((it : transports.Transport) → spec.number_of it ≡ number → ⊥) }
 {
     match number {
         1 => Some(Transport::Udp),
@@ -34,7 +38,9 @@ fn transport_of(number: u8) -> Option<Transport>
 
 /// The families of a number.
 fn families_of(number: u8) -> Option<Families>
-    ensures { IfSome result (λ families. spec.number_of_families families ≡ number) }
+    ensures is { IfSome result (λ families. spec.number_of_families families ≡ number) }
+    ensures none { IfNone result ((it : families.Families) → spec.number_of_families it ≡ number
+        → ⊥) }
 {
     match number {
         1 => Some(Families::V4),
@@ -47,7 +53,8 @@ fn families_of(number: u8) -> Option<Families>
 
 /// What a message goes over, by its number.
 pub(crate) fn over_of(number: u8) -> Option<DnsTransport>
-    ensures { IfSome result (λ over. spec.number_of_over over ≡ number) }
+    ensures is { IfSome result (λ over. spec.number_of_over over ≡ number) }
+    ensures none { IfNone result ((it : over.DnsTransport) → spec.number_of_over it ≡ number → ⊥) }
 {
     match number {
         1 => Some(DnsTransport::Datagram),
@@ -78,28 +85,31 @@ pub(crate) fn number_of_reason(reason: Reason) -> u32
     }
 }
 
+/// The transports of these numbers, in their order, in front of four.
+fn transports_of(numbers: &[u8]) -> Option<[Transport; 4]>
+    requires few { length numbers.now ≤ 4 }
+    ensures are { IfSome result
+        (λ it. map spec.number_of (take (length numbers.now) it) ≡ numbers.now) }
+    ensures none { IfNone result ((list : List transports.Transport)
+        → map spec.number_of list ≡ numbers.now → ⊥) }
+{
+    let mut transports = [Transport::Udp; 4];
+    for (at, number) in numbers.iter().enumerate() {
+        transports[at] = transport_of(*number)?;
+    }
+    Some(transports)
+}
+
 /// What the caller can do, by the numbers of its transports, most wanted first, and of its
 /// families.
 pub(crate) fn caps_of(transports: &[u8], families: u8) -> Option<Caps>
-    ensures { IfSome result (spec.AreCapsOf transports.now families) }
+    ensures are { IfSome result (spec.AreCapsOf transports.now families) }
+    ensures none { IfNone result (spec.CannotBe transports.now families) }
 {
     let families = families_of(families)?;
-    match transports {
-        [a] => Caps::new(&[transport_of(*a)?], families),
-        [a, b] => Caps::new(&[transport_of(*a)?, transport_of(*b)?], families),
-        [a, b, c] => Caps::new(
-            &[transport_of(*a)?, transport_of(*b)?, transport_of(*c)?],
-            families,
-        ),
-        [a, b, c, d] => Caps::new(
-            &[
-                transport_of(*a)?,
-                transport_of(*b)?,
-                transport_of(*c)?,
-                transport_of(*d)?,
-            ],
-            families,
-        ),
-        _ => None,
+    if transports.len() > 4 {
+        return None;
     }
+    let list = transports_of(transports)?;
+    Caps::new(&list[..transports.len()], families)
 }

@@ -48,7 +48,7 @@ fn next(alloc: Global, handle: &mut Handle) -> Result<ToldOutcome, Status>
     ensures answers { StaysBy KeepsAnswers handle.old.held.state handle.new.held.state }
     ensures unchanged { OnErr result (handle.new.held.state ≡ handle.old.held.state) }
     ensures none { OnErr result (IfSome handle.old.held.state (λ state. HasNone state)) }
-    ensures is_closed { handle.old.held.state ≡ None → result ≡ Err Status.Closed }
+    ensures is_closed { (result ≡ Err Status.Closed) ↔ (handle.old.held.state ≡ None) }
 {
     let mut resolver = handle.take(alloc)?;
     let told = tell_next(&mut resolver);
@@ -71,7 +71,7 @@ fn target(alloc: Global, handle: &mut Handle, index: usize) -> Result<ToldTarget
     ensures told { IfOk result (λ told. target_told_at index handle.old.held.state ≡ Some told) }
     ensures none { OnErr result (target_told_at index handle.old.held.state ≡ None) }
     ensures same { handle.new.held.state ≡ handle.old.held.state }
-    ensures is_closed { handle.old.held.state ≡ None → result ≡ Err Status.Closed }
+    ensures is_closed { (result ≡ Err Status.Closed) ↔ (handle.old.held.state ≡ None) }
 {
     let resolver = handle.take(alloc)?;
     let told = told_target(&resolver, index);
@@ -98,6 +98,7 @@ fn write_question(resolver: &RollingResolver, name: &mut [u8]) -> Result<ToldQue
     ensures unchanged { OnErr result (name.new ≡ name.old) }
     ensures nothing { (result ≡ Err Status.Nothing)
         ↔ (spec.question_lacked (Some resolver.now) ≡ None) }
+    ensures open { result ≡ Err Status.Closed → ⊥ }
     ensures room { result ≡ Err Status.Room → (question : Question)
         × (spec.question_lacked (Some resolver.now) ≡ Some question)
         × (length name.old < length (text_of question.name)) }
@@ -126,7 +127,7 @@ fn question(alloc: Global, handle: &mut Handle, name: &mut [u8]) -> Result<ToldQ
         × spec.IsQuestionTold told name.old name.new question) }
     ensures unchanged { OnErr result (name.new ≡ name.old) }
     ensures same { handle.new.held.state ≡ handle.old.held.state }
-    ensures is_closed { handle.old.held.state ≡ None → result ≡ Err Status.Closed }
+    ensures is_closed { (result ≡ Err Status.Closed) ↔ (handle.old.held.state ≡ None) }
 {
     let resolver = handle.take(alloc)?;
     let told = write_question(&resolver, name);
@@ -149,7 +150,7 @@ pub extern "C" fn wokhleas_raw_next(
         × (outcome.new ≡ outcome.old) }
     ensures none { result ≢ pos 0 → IfSome handle.old.held.state (λ state. HasNone state) }
     ensures answers { StaysBy KeepsAnswers handle.old.held.state handle.new.held.state }
-    ensures is_closed { handle.old.held.state ≡ None → result ≡ pos closed }
+    ensures is_closed { (result ≡ pos closed) ↔ (handle.old.held.state ≡ None) }
 {
     match next(alloc, handle) {
         Ok(told) => {
@@ -173,7 +174,7 @@ pub extern "C" fn wokhleas_raw_get_target(
     ensures none { result ≢ pos 0 → (target_told_at index handle.old.held.state ≡ None)
         × (target_told.new ≡ target_told.old) }
     ensures same { handle.new.held.state ≡ handle.old.held.state }
-    ensures is_closed { handle.old.held.state ≡ None → result ≡ pos closed }
+    ensures is_closed { (result ≡ pos closed) ↔ (handle.old.held.state ≡ None) }
 {
     match target(alloc, handle, index) {
         Ok(told) => {
@@ -198,7 +199,7 @@ pub extern "C" fn wokhleas_raw_get_question(
     ensures unchanged { result ≢ pos 0 → (name.new ≡ name.old)
         × (question_told.new ≡ question_told.old) }
     ensures same { handle.new.held.state ≡ handle.old.held.state }
-    ensures is_closed { handle.old.held.state ≡ None → result ≡ pos closed }
+    ensures is_closed { (result ≡ pos closed) ↔ (handle.old.held.state ≡ None) }
 {
     match question(alloc, handle, name) {
         Ok(told) => {

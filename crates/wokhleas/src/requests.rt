@@ -1,13 +1,14 @@
 //! Requests come in.
-ghost use Rattle.std.specs.Prelude.{◌≡◌, ◌≢◌, IfOk, IfSome, OnErr, OnOk, pos, None, Err};
+ghost use Rattle.std.specs.Prelude.{◌≡◌, ◌≢◌, ◌↔◌, ◌-◌, ◌/◌, ◌≤◌, ◌^◌, IfErr, IfOk, IfSome, OnErr, OnOk, pos, None, Err};
 ghost use Rattle.sip_selection.specs.declared.request.Request.TheVariants.{Uri};
 ghost use Rattle.sip_uri.specs.Views.{IsUriView, uri_of};
 ghost use Rattle.rolling_resolver.specs.Inside.{GainsOne, SameInside};
 ghost use Rattle.rolling_resolver.specs.Rests.{KeepsAnswers};
 ghost use Rattle.rolling_resolver.specs.Rolling.{HasRequest, Renews, TakesIn};
 ghost use Rattle.wokhleas.specs.Handles.{GoesBy, StaysBy};
-ghost use Rattle.wokhleas.specs.Requests.{Cancels, IsSubmitted, IsTakenIn, IsUntil};
-ghost use Rattle.wokhleas.specs.Statuses.{closed};
+ghost use Rattle.wokhleas.specs.Requests.{Cancels, IsSubmitted, IsTakenIn, IsUntil, WhyNoVia, WhyNotSubmitted, WhyNotTaken};
+ghost use Rattle.wokhleas.specs.Statuses.{closed, code_of};
+ghost use Rattle.wokhleas.specs.declared.status.Status.{Status as Refusal};
 
 use crate::handle::Handle;
 use crate::numbers::caps_of;
@@ -23,7 +24,9 @@ const NEVER: u64 = u64::MAX;
 
 /// The moment by which a request ends, which C has in milliseconds; none where it says never.
 fn until_of(milliseconds: u64) -> Result<Option<Moment>, Status>
-    ensures { IfOk result (IsUntil milliseconds) }
+    ensures until { IfOk result (IsUntil milliseconds) }
+    ensures refused { IfErr result (λ status. (status ≡ Status.Argument)
+        × (milliseconds ≢ 2 ^ 64 - 1) × (2 ^ 48 ≤ milliseconds / 1000)) }
 {
     if milliseconds == NEVER {
         return Ok(None);
@@ -47,6 +50,7 @@ fn submit(
         handle.old.held.state handle.new.held.state) }
     ensures gains { OnOk result (GoesBy (GainsOne number request caps until)
         handle.old.held.state handle.new.held.state) }
+    ensures refused { IfErr result (WhyNotTaken number handle.new.held.state) }
     ensures inside { OnErr result
         (StaysBy SameInside handle.old.held.state handle.new.held.state) }
     ensures renews { StaysBy Renews handle.old.held.state handle.new.held.state }
@@ -77,6 +81,7 @@ fn submit_uri(
         handle.old.held.state handle.new.held.state) }
     ensures gains { OnOk result (GoesBy (GainsOne number (Uri (uri_of parts.entry)) caps until)
         handle.old.held.state handle.new.held.state) }
+    ensures refused { IfErr result (WhyNotTaken number handle.new.held.state) }
     ensures inside { OnErr result
         (StaysBy SameInside handle.old.held.state handle.new.held.state) }
     ensures renews { StaysBy Renews handle.old.held.state handle.new.held.state }
@@ -100,6 +105,7 @@ fn submit_via(
 ) -> Result<(), Status>
     ensures taken_in { OnOk result (GoesBy (IsTakenIn number text.now caps until)
         handle.old.held.state handle.new.held.state) }
+    ensures refused { IfErr result (WhyNoVia number text.now handle.new.held.state) }
     ensures inside { OnErr result
         (StaysBy SameInside handle.old.held.state handle.new.held.state) }
     ensures renews { StaysBy Renews handle.old.held.state handle.new.held.state }
@@ -128,6 +134,8 @@ fn submit_text(
     ensures submitted { OnOk result
         (GoesBy (IsSubmitted number text.now transports.now families until)
         handle.old.held.state handle.new.held.state) }
+    ensures refused { IfErr result (WhyNotSubmitted number text.now transports.now families until
+        handle.new.held.state) }
     ensures inside { OnErr result
         (StaysBy SameInside handle.old.held.state handle.new.held.state) }
     ensures renews { StaysBy Renews handle.old.held.state handle.new.held.state }
@@ -151,7 +159,7 @@ fn cancel(alloc: Global, handle: &mut Handle, number: u64) -> Result<(), Status>
     ensures none { OnErr result
         (IfSome handle.old.held.state (λ state. HasRequest number state → ⊥)) }
     ensures answers { StaysBy KeepsAnswers handle.old.held.state handle.new.held.state }
-    ensures is_closed { handle.old.held.state ≡ None → result ≡ Err Status.Closed }
+    ensures is_closed { (result ≡ Err Status.Closed) ↔ (handle.old.held.state ≡ None) }
 {
     let mut resolver = handle.take(alloc)?;
     let found = resolver.cancel(number);
@@ -173,6 +181,9 @@ pub extern "C" fn wokhleas_raw_submit(
     ensures submitted { result ≡ pos 0
         → GoesBy (IsSubmitted number text.now transports.now families until)
         handle.old.held.state handle.new.held.state }
+    ensures refused { result ≢ pos 0 → (status : Refusal) × (result ≡ pos (code_of status))
+        × WhyNotSubmitted number text.now transports.now families until handle.new.held.state
+        status }
     ensures inside { result ≢ pos 0
         → StaysBy SameInside handle.old.held.state handle.new.held.state }
     ensures renews { StaysBy Renews handle.old.held.state handle.new.held.state }
@@ -193,7 +204,7 @@ pub extern "C" fn wokhleas_raw_cancel(alloc: Global, handle: &mut Handle, number
     ensures none { result ≢ pos 0
         → IfSome handle.old.held.state (λ state. HasRequest number state → ⊥) }
     ensures answers { StaysBy KeepsAnswers handle.old.held.state handle.new.held.state }
-    ensures is_closed { handle.old.held.state ≡ None → result ≡ pos closed }
+    ensures is_closed { (result ≡ pos closed) ↔ (handle.old.held.state ≡ None) }
 {
     match cancel(alloc, handle, number) {
         Ok(()) => DONE,

@@ -1,5 +1,5 @@
 //! What is counted of a resolver.
-ghost use Rattle.std.specs.Prelude.{◌≡◌, ◌≢◌, IfOk, IsSomeAnd, OnErr, None, pos, Err};
+ghost use Rattle.std.specs.Prelude.{◌≡◌, ◌≢◌, ◌↔◌, IfOk, IsSomeAnd, OnErr, None, pos, Err};
 ghost use Rattle.rolling_resolver.specs.Stats.{AreCounted};
 ghost use Rattle.wokhleas.specs.Statuses.{closed};
 
@@ -14,7 +14,7 @@ fn counted(alloc: Global, handle: &mut Handle) -> Result<Stats, Status>
         (λ stats. IsSomeAnd handle.old.held.state (AreCounted stats)) }
     ensures closed { OnErr result (handle.old.held.state ≡ None) }
     ensures same { handle.new.held.state ≡ handle.old.held.state }
-    ensures is_closed { handle.old.held.state ≡ None → result ≡ Err Status.Closed }
+    ensures is_closed { (result ≡ Err Status.Closed) ↔ (handle.old.held.state ≡ None) }
 {
     let resolver = handle.take(alloc)?;
     let stats = resolver.stats();
@@ -34,7 +34,7 @@ pub extern "C" fn wokhleas_raw_stats(
     ensures closed { result ≢ pos 0 → (handle.old.held.state ≡ None)
         × (stats_told.new ≡ stats_told.old) }
     ensures same { handle.new.held.state ≡ handle.old.held.state }
-    ensures is_closed { handle.old.held.state ≡ None → result ≡ pos closed }
+    ensures is_closed { (result ≡ pos closed) ↔ (handle.old.held.state ≡ None) }
 {
     match counted(alloc, handle) {
         Ok(stats) => {

@@ -1,21 +1,21 @@
 //! What goes out, what comes in, and when.
-ghost use Rattle.std.specs.Prelude.{◌≡◌, ◌≢◌, ◌/◌, [], IfOk, IfSome, IsSomeAnd, OnErr, OnOk, Some, pos, take, None, Err};
+ghost use Rattle.std.specs.Prelude.{◌≡◌, ◌≢◌, ◌↔◌, ◌/◌, [], IfErr, IfOk, IfSome, IsSomeAnd, OnErr, OnOk, Some, length, pos, None, Err};
 ghost use Rattle.dns_queries.specs.declared.incoming.Why.{Why};
 ghost use Rattle.sip_resolver.specs.Questions.{IsLeast};
 ghost use Rattle.sip_resolver.specs.declared.resolver.ReplyOutcome.TheVariants.{Ignored};
 ghost use Rattle.rolling_resolver.specs.Inside.{SameInside};
 ghost use Rattle.rolling_resolver.specs.Rests.{GainsFrom, KeepsAnswers};
-ghost use Rattle.rolling_resolver.specs.Rolling.{IsQueryOf, SameSeats, dues_in};
+ghost use Rattle.rolling_resolver.specs.Rolling.{AreQuiet, GivesUpOf, IsQueryOut, IsWrittenOf, SameSeats, dues_in};
 ghost use Rattle.wokhleas.specs.Handles.{GoesBy, StaysBy};
 ghost use Rattle.wokhleas.specs.Numbers.{number_of_over};
 ghost use Rattle.wokhleas.specs.Wires.{IsLeft, IsReceived, IsTransmitted};
-ghost use Rattle.wokhleas.specs.Statuses.{closed};
+ghost use Rattle.wokhleas.specs.Statuses.{closed, nothing};
 
 use crate::handle::Handle;
 use crate::numbers::{number_of_over, over_of};
 use crate::status::{DONE, Status};
-use rolling_resolver::{Instant, Sent, instant_of, left_until};
-use sip_resolver::{DnsTransport, ReplyOutcome};
+use rolling_resolver::{Instant, QueryIds, Sent, instant_of, left_until};
+use sip_resolver::{DnsTransport, Ids, ReplyOutcome};
 use std::alloc::Global;
 
 /// So many octets a buffer for a query has at least, as C is told.
@@ -42,9 +42,11 @@ fn transmit(
     at: Instant,
     octets: &mut [u8],
 ) -> Result<Sent, Status>
-    ensures query { IfOk result (λ sent. GoesBy
-        (λ old new. IsQueryOf sent.over sent.send (take sent.length octets.new) new)
+    ensures query { IfOk result (λ sent. GoesBy (λ old new. IsWrittenOf sent octets.new new)
         handle.old.held.state handle.new.held.state) }
+    ensures quiet { result ≡ Err Status.Nothing → IsSomeAnd handle.new.held.state
+        (AreQuiet ⟦<QueryIds as Ids>⟧.draws at.second (length octets.old)) }
+    ensures is_closed { (result ≡ Err Status.Closed) ↔ (handle.old.held.state ≡ None) }
     ensures seats { StaysBy SameSeats handle.old.held.state handle.new.held.state }
     ensures inside { StaysBy SameInside handle.old.held.state handle.new.held.state }
     ensures answers { StaysBy KeepsAnswers handle.old.held.state handle.new.held.state }
@@ -70,6 +72,7 @@ fn receive(
         handle.old.held.state handle.new.held.state) }
     ensures unchanged { OnErr result (handle.new.held.state ≡ handle.old.held.state) }
     ensures inside { StaysBy SameInside handle.old.held.state handle.new.held.state }
+    ensures is_closed { (result ≡ Err Status.Closed) ↔ (handle.old.held.state ≡ None) }
     ensures answers { StaysBy (GainsFrom octets.now)
         handle.old.held.state handle.new.held.state }
 {
@@ -86,6 +89,7 @@ fn receive(
 fn is_reply(heard: ReplyOutcome) -> Result<(), Status>
     ensures reply { OnOk result ((why : Why) → heard ≢ Ignored why) }
     ensures ignored { OnErr result ((why : Why) × (heard ≡ Ignored why)) }
+    ensures told { IfErr result (λ status. status ≡ Status.Nothing) }
 {
     match heard {
         ReplyOutcome::Ignored(_) => Err(Status::Nothing),
@@ -95,11 +99,15 @@ fn is_reply(heard: ReplyOutcome) -> Result<(), Status>
 
 /// Says that no server takes a query.
 fn give_up(alloc: Global, handle: &mut Handle, query: u32) -> Result<(), Status>
+    ensures gives_up { OnOk result
+        (GoesBy (GivesUpOf query) handle.old.held.state handle.new.held.state) }
+    ensures none { OnErr result
+        (IfSome handle.old.held.state (λ state. IsQueryOut query state → ⊥)) }
     ensures seats { StaysBy SameSeats handle.old.held.state handle.new.held.state }
     ensures inside { StaysBy SameInside handle.old.held.state handle.new.held.state }
     ensures answers { StaysBy KeepsAnswers handle.old.held.state handle.new.held.state }
     ensures unchanged { OnErr result (handle.new.held.state ≡ handle.old.held.state) }
-    ensures is_closed { handle.old.held.state ≡ None → result ≡ Err Status.Closed }
+    ensures is_closed { (result ≡ Err Status.Closed) ↔ (handle.old.held.state ≡ None) }
 {
     let mut resolver = handle.take(alloc)?;
     let found = resolver.give_up(query);
@@ -113,7 +121,7 @@ fn deadline(alloc: Global, handle: &mut Handle) -> Result<u64, Status>
         IsSomeAnd handle.old.held.state (λ state. IsLeast (dues_in state) (Some second))) }
     ensures none { OnErr result (IfSome handle.old.held.state (λ state. dues_in state ≡ [])) }
     ensures same { handle.new.held.state ≡ handle.old.held.state }
-    ensures is_closed { handle.old.held.state ≡ None → result ≡ Err Status.Closed }
+    ensures is_closed { (result ≡ Err Status.Closed) ↔ (handle.old.held.state ≡ None) }
 {
     let resolver = handle.take(alloc)?;
     let second = resolver.deadline();
@@ -137,6 +145,9 @@ pub extern "C" fn wokhleas_raw_transmit(
         (λ old new. IsTransmitted message.new octets.new new)
         handle.old.held.state handle.new.held.state }
     ensures unchanged { result ≢ pos 0 → message.new ≡ message.old }
+    ensures quiet { result ≡ pos nothing → IsSomeAnd handle.new.held.state
+        (AreQuiet ⟦<QueryIds as Ids>⟧.draws (milliseconds / 1000) (length octets.old)) }
+    ensures closed { result ≡ pos closed → handle.old.held.state ≡ None }
     ensures seats { StaysBy SameSeats handle.old.held.state handle.new.held.state }
     ensures inside { StaysBy SameInside handle.old.held.state handle.new.held.state }
     ensures answers { StaysBy KeepsAnswers handle.old.held.state handle.new.held.state }
@@ -168,6 +179,7 @@ pub extern "C" fn wokhleas_raw_receive(
     over: u8,
     octets: &[u8],
 ) -> i32
+    ensures closed { result ≡ pos closed → handle.old.held.state ≡ None }
     ensures received { result ≡ pos 0
         → GoesBy (IsReceived over octets.now (milliseconds / 1000))
         handle.old.held.state handle.new.held.state }
@@ -188,11 +200,15 @@ pub extern "C" fn wokhleas_raw_receive(
 /// See `c/wokhleas.h`.
 #[unsafe(no_mangle)]
 pub extern "C" fn wokhleas_raw_give_up(alloc: Global, handle: &mut Handle, query: u32) -> i32
+    ensures gives_up { result ≡ pos 0
+        → GoesBy (GivesUpOf query) handle.old.held.state handle.new.held.state }
+    ensures none { result ≢ pos 0
+        → IfSome handle.old.held.state (λ state. IsQueryOut query state → ⊥) }
     ensures seats { StaysBy SameSeats handle.old.held.state handle.new.held.state }
     ensures unchanged { result ≢ pos 0 → handle.new.held.state ≡ handle.old.held.state }
     ensures inside { StaysBy SameInside handle.old.held.state handle.new.held.state }
     ensures answers { StaysBy KeepsAnswers handle.old.held.state handle.new.held.state }
-    ensures is_closed { handle.old.held.state ≡ None → result ≡ pos closed }
+    ensures is_closed { (result ≡ pos closed) ↔ (handle.old.held.state ≡ None) }
 {
     match give_up(alloc, handle, query) {
         Ok(()) => DONE,
@@ -213,7 +229,7 @@ pub extern "C" fn wokhleas_raw_timeout(
     ensures none { result ≢ pos 0 → (left.new ≡ left.old)
         × IfSome handle.old.held.state (λ state. dues_in state ≡ []) }
     ensures same { handle.new.held.state ≡ handle.old.held.state }
-    ensures is_closed { handle.old.held.state ≡ None → result ≡ pos closed }
+    ensures is_closed { (result ≡ pos closed) ↔ (handle.old.held.state ≡ None) }
 {
     match deadline(alloc, handle) {
         Ok(second) => {

@@ -4,13 +4,13 @@ use Rattle.wokhleas.proofs.requests.submit_text.Goals as goal
 pub returns-in-Ok-clause-submitted : goal.returns-in-Ok-clause-submitted
 returns-in-Ok-clause-submitted c =
     let a = c.args in
-    submitted-by a.number a.text.now a.transports.now a.families a.until _ _ c.in-Some.ensures c.in_ok-until.ensures c.submit_uri.result
-    _ _
+    submitted-by a.number a.text.now a.transports.now a.families a.until _ _ c.in-Some.ensures.are c.in_ok-until.ensures.until
+    c.submit_uri.result _ _
     (taken-by a.number a.text.now _ _ _ c.in-Ok.ensures.found c.submit_uri.result _ _ c.submit_uri.ensures.taken_in
     c.submit_uri.ensures.gains)
 
 pub returns-in-Err-clause-submitted : goal.returns-in-Err-clause-submitted
 returns-in-Err-clause-submitted c =
     let a = c.args in
-    submitted-by a.number a.text.now a.transports.now a.families a.until _ _ c.in-Some.ensures c.in_ok-until.ensures c.submit_via.result
-    _ _ c.submit_via.ensures.taken_in
+    submitted-by a.number a.text.now a.transports.now a.families a.until _ _ c.in-Some.ensures.are c.in_ok-until.ensures.until
+    c.submit_via.result _ _ c.submit_via.ensures.taken_in
