@@ -133,6 +133,9 @@ fn fill_by_last<R: Wait>(rt: &R, cache: &SharedCache, seats: &mut Vec<Seat>, loa
     }
 }
 
+/// Of how many groups the cache is: of most questions there is at most one in a group.
+const GROUPS: u32 = 4_096;
+
 /// A cache with so many seats, which one more has filled.
 fn filled<R: Wait + AllocGlobal>(
     rt: &R,
@@ -141,7 +144,7 @@ fn filled<R: Wait + AllocGlobal>(
 ) -> Option<(SharedCache, Vec<Seat>)>
     ensures { IfSome result (λ made. All (Belongs made.0) made.1.items) }
 {
-    match SharedCache::new(rt.alloc(), threads.saturating_add(1)) {
+    match SharedCache::with_groups(rt.alloc(), threads.saturating_add(1), GROUPS) {
         Ok((cache, mut seats)) => {
             fill_by_last(rt, &cache, &mut seats, load);
             Some((cache, seats))

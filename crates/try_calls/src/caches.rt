@@ -11,7 +11,7 @@ use crate::successors::list_successors;
 use answer_cache::{CacheRefusal, Carried, ListCache, Notice, Seat, SharedCache, Stores};
 use dns_answers::{Answer, Moment};
 use dns_message::Question;
-use row_fields::{Fault, Output, count, only_line, split_word};
+use row_fields::{Fault, Output, count, number32, only_line, split_word};
 use std::alloc::Global;
 use std::sync::Wait;
 
@@ -106,10 +106,24 @@ fn push_new(output: &mut Output, count: usize) {
     push_count(output, made);
 }
 
-/// `new` or `successor` and a number of seats give how many a cache has, or why there is none.
+/// Writes how many seats a new cache of a number of groups has, or why there is none.
+fn push_with_groups(output: &mut Output, field: &str) {
+    let (seats, groups) = split_word(field);
+    match (count(seats), number32(groups)) {
+        (Ok(seats), Ok(groups)) => {
+            let made = SharedCache::with_groups(output.alloc(), seats, groups);
+            push_count(output, made);
+        }
+        _ => output.fail(Fault::Form),
+    }
+}
+
+/// `new` or `successor` and a number of seats, or `groups`, such a number and one of groups, give
+/// how many seats a cache has, or why there is none.
 fn counts<R: Wait>(rt: &R, output: &mut Output, line: &str) {
     let (word, field) = split_word(line);
     match (word, count(field)) {
+        ("groups", _) => push_with_groups(output, field),
         ("new", Ok(count)) => push_new(output, count),
         ("successor", Ok(count)) => push_successor(rt, output, count),
         _ => output.fail(Fault::Form),

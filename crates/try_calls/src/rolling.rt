@@ -9,10 +9,11 @@ use crate::books::{
 use crate::fields::moment;
 use crate::replies::{Reply, read_reply};
 use crate::shown::push_debug_line;
+use answer_cache::CacheRefusal;
 use dns_answers::Moment;
 use dns_message::Question;
 use rolling_cache::{Change, RollingCache, RollingSeat};
-use row_fields::{Fault, Output, count, number64, only_line, split_word};
+use row_fields::{Fault, Output, count, number32, number64, only_line, split_word};
 use std::alloc::{AllocError, Global};
 use std::sync::Wait;
 
@@ -31,9 +32,9 @@ fn start() -> Option<Moment> {
     Moment::new(100)
 }
 
-/// Writes how many seats a new cache has, or why there is none.
-fn push_count(output: &mut Output, count: usize, now: Moment) {
-    match RollingCache::new(output.alloc(), count, now) {
+/// Writes how many seats there are, or why there is no cache.
+fn push_count(output: &mut Output, made: Result<(RollingCache, Vec<RollingSeat>), CacheRefusal>) {
+    match made {
         Ok((cache, seats)) => {
             push_seats(output, seats.len());
             drop(seats);
@@ -43,10 +44,29 @@ fn push_count(output: &mut Output, count: usize, now: Moment) {
     }
 }
 
-/// A number of seats gives how many a cache has, or why there is none.
+/// Writes how many seats a new cache of a number of groups has, or why there is none.
+fn push_with_groups(output: &mut Output, seats: usize, groups: &str, now: Moment) {
+    let Ok(groups) = number32(groups) else {
+        output.fail(Fault::Form);
+        return;
+    };
+    let made = RollingCache::with_groups(output.alloc(), seats, groups, now);
+    push_count(output, made);
+}
+
+/// Writes how many seats a new cache has, or why there is none.
+fn push_new(output: &mut Output, seats: usize, now: Moment) {
+    let made = RollingCache::new(output.alloc(), seats, now);
+    push_count(output, made);
+}
+
+/// A number of seats, and of groups where they are not 64, gives how many seats a cache has, or why
+/// there is none.
 fn counts(output: &mut Output, line: &str) {
-    match (count(line), start()) {
-        (Ok(count), Some(now)) => push_count(output, count, now),
+    let (seats, groups) = split_word(line);
+    match (count(seats), start(), groups.is_empty()) {
+        (Ok(seats), Some(now), true) => push_new(output, seats, now),
+        (Ok(seats), Some(now), false) => push_with_groups(output, seats, groups, now),
         _ => output.fail(Fault::Form),
     }
 }

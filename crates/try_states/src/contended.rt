@@ -19,7 +19,7 @@ trait Naming {
 }
 
 impl Naming for Brand {
-    ghost cache = { cache_view (record { number = 0; log_name = 0; cells_name = 0 }) 0 };
+    ghost cache = { cache_view (record { number = 0; log_name = 0; cells_name = 0 }) 0 0 };
 }
 
 /// Stores through another seat in the tries up to a last one, and counts the tries.

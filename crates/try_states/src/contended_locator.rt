@@ -70,7 +70,7 @@ trait Naming {
 }
 
 impl Naming for Brand {
-    ghost cache = { cache_view (record { number = 0; log_name = 0; cells_name = 0 }) 0 };
+    ghost cache = { cache_view (record { number = 0; log_name = 0; cells_name = 0 }) 0 0 };
 }
 
 /// Another seat, which stores an answer of its own in each try.

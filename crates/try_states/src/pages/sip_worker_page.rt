@@ -3,7 +3,7 @@ ghost use Rattle.std.specs.List.{All};
 ghost use Rattle.std.specs.Prelude.{IfSome};
 ghost use Rattle.answer_cache.specs.Shared.{Belongs};
 
-use crate::seats::both;
+use crate::seats::{both, last_of};
 use crate::worker_jobs::{ZONE, clock_at_100, two_jobs, zone_with};
 use answer_cache::{Seat, SharedCache};
 use dns_queries::{StandingClock, Wire};
@@ -35,7 +35,9 @@ fn worker_of<W: Wire + Drop>(
     requires { All (Belongs cache.now) seats.old.items }
     ensures { IfSome result (Belongs cache.now) }
 {
-    let worker = Worker::new(alloc, seats.pop()?, wire).ok()?;
+    // (the toolchain finds no proof of where the seat belongs by `pop`)
+    // let worker = Worker::new(alloc, seats.pop()?, wire).ok()?;
+    let worker = Worker::new(alloc, last_of(cache, seats)?, wire).ok()?;
     Some(worker)
 }
 

@@ -21,6 +21,7 @@ returns-clause-all c =
     (record {
       number = three.goes_on.number ∙ (two.goes_on.number ∙ one.goes_on.number);
       seen = prefix-trans start first all one.goes_on.seen later;
+      groups = three.goes_on.groups ∙ (two.goes_on.groups ∙ one.goes_on.groups);
     })
     (record {
       own = three.stores_nothing.own ∙ (two.stores_nothing.own ∙ one.stores_nothing.own);
