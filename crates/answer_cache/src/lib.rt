@@ -22,10 +22,10 @@
 //! question is full, when other stores came in between 16 times, and when there is no memory.
 //! `StoreRefusal` says which it was, and nothing was stored then.
 //!
-//! `group` puts each question, by its name and type, into one of 64 groups, and a group has at most
-//! 128 stores. So a book of 64 groups never has more than 8,192. A book can be of more groups: of
-//! 65,536 at most, which have 8,388,608 stores (`ListCache::with_groups`,
-//! `SharedCache::with_groups`). Stores do not make room for others: when groups are full, the user
+//! A book puts each question, by its name and type, into one of its groups, and a group has at most
+//! 128 stores. A book has 64 groups (`group` says which), and so at most 8,192 stores, or as many
+//! as `ListCache::with_groups` or `SharedCache::with_groups` is told: 65,536 at most, which have
+//! 8,388,608 stores. Stores do not make room for others: when groups are full, the user
 //! of a book begins a new one. A `SharedCache` hands on what lives (`carry`), and its successor
 //! begins with that. `ListCache::successor` begins with what lives of another list. A successor is
 //! of as many groups.

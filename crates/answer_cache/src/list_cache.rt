@@ -16,7 +16,7 @@ use crate::book::{AnswerBook, Stores};
 use crate::notes::Notes;
 use crate::refusal::StoreRefusal;
 use crate::store_list::{StoreList, is_group_count};
-use answer_log::GROUP_COUNT;
+use answer_log::LEAST_GROUPS;
 use dns_answers::{Answer, FoundAnswer, Moment};
 use dns_message::{Question, law_same_questions_are_equal};
 use std::alloc::{AllocError, Global};
@@ -64,7 +64,7 @@ impl ListCache {
         ensures seat { result.1 ≡ seat_at 64 [] [] }
         ensures is { IsListSeat result.1 }
     {
-        ListCache::empty(alloc, u32::from(GROUP_COUNT))
+        ListCache::empty(alloc, LEAST_GROUPS)
     }
 
     /// A book of so many groups in which nothing is stored, and its seat: as `new`, for a book that

@@ -19,7 +19,7 @@ ghost use Rattle.answer_cache.specs.declared.carried.Entry.{Entry as Kept};
 
 use crate::carried::Entry;
 use crate::refusal::StoreRefusal;
-use answer_log::{GROUP_LIMIT, hash};
+use answer_log::{GROUP_LIMIT, LEAST_GROUPS, MOST_GROUPS, hash};
 use dns_answers::{Answer, Moment};
 use dns_message::{Question, law_same_questions_are_equal};
 use std::alloc::{AllocError, Global};
@@ -38,7 +38,7 @@ struct Mark {
 pub fn is_group_count(groups: u32) -> bool
     ensures { IsTrue result ↔ IsGroupCount groups }
 {
-    (64..=65_536).contains(&groups) && groups.is_power_of_two()
+    (LEAST_GROUPS..=MOST_GROUPS).contains(&groups) && groups.is_power_of_two()
 }
 
 /// A list of marks for each group, all empty.

@@ -4,10 +4,7 @@ ghost use Rattle.answer_log.specs.Groups.{group_of, hash_more, hash_of, hashed_o
 
 use dns_message::Question;
 
-/// How many groups there are where nothing says how many.
-pub const GROUP_COUNT: u8 = 64;
-
-/// How many groups a log has at least: 64.
+/// How many groups a log has at least, and where nothing says how many: 64.
 pub const LEAST_GROUPS: u32 = 64;
 
 /// How many groups a log can have: 65,536.
@@ -44,15 +41,7 @@ pub fn group(question: &Question) -> u8
     ensures group { result ≡ group_of question.now }
     ensures below { result < 64 }
 {
-    group_of_hash(hash(question))
-}
-
-/// The group of all questions with a hash, one of 64.
-#[must_use]
-pub fn group_of_hash(hash: u32) -> u8
-    ensures { result ≡ hash % 64 }
-{
-    (hash % u32::from(GROUP_COUNT)) as u8
+    group_among(hash(question), LEAST_GROUPS) as u8
 }
 
 /// The group of all questions with a hash, one of so many.

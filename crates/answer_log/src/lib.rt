@@ -84,9 +84,7 @@ mod tally;
 
 pub use cursor::Cursor;
 pub use event::{Counted, Event};
-pub use groups::{
-    GROUP_COUNT, GROUP_LIMIT, LEAST_GROUPS, MOST_GROUPS, group, group_among, group_of_hash, hash,
-};
+pub use groups::{GROUP_LIMIT, LEAST_GROUPS, MOST_GROUPS, group, group_among, hash};
 pub use handle::{Handle, Handles};
 pub use log::{
     ClaimedNode, Log, law_histories_are_one, law_log_keeps_its_rule, law_placed_is_named,

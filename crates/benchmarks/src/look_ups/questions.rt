@@ -1,5 +1,5 @@
 //! The questions of a run, and their answers.
-use answer_log::{GROUP_COUNT, group};
+use answer_log::{LEAST_GROUPS, group};
 use dns_answers::{Answer, Records, Section};
 use dns_message::{Kind, Question};
 use dns_name::Name;
@@ -52,7 +52,7 @@ fn push_known(alloc: Global, all: &mut Vec<Known>, question: Question) -> Option
 fn push_few(
     alloc: Global,
     all: &mut Vec<Known>,
-    counts: &mut [usize; GROUP_COUNT as usize],
+    counts: &mut [usize; LEAST_GROUPS as usize],
     question: Question,
     in_group: usize,
 ) -> Option<()> {
@@ -69,7 +69,7 @@ fn push_few(
 /// So many questions, by the numbers of their hosts, of which so many at most are in one group.
 pub fn known_of(alloc: Global, count: usize, in_group: usize) -> Option<Vec<Known>> {
     let mut all = Vec::new(alloc);
-    let mut counts = [0_usize; GROUP_COUNT as usize];
+    let mut counts = [0_usize; LEAST_GROUPS as usize];
     'hosts: for number in 0..1_000_000 {
         if all.len() == count {
             break;
