@@ -1,5 +1,5 @@
 -- How the log is opened.
-use Rattle.std.proofs.Common.{◌≡◌, ◌≤◌, ◌+◌, ℕ, length, inl, inr, true, [], ◌∷◌, false, replicate, refl, arith, rules}
+use Rattle.std.proofs.Common.{◌≡◌, ◌≤◌, ◌+◌, ℕ, length, inl, inr, true, [], ◌∷◌, false, replicate, arith, rules}
 use Rattle.std.proofs.lemmas.List.{get_or-replicate}
 use Rattle.std.proofs.lemmas.List.FromFn.{length-map-range_with_len}
 use Rattle.logbook.specs.Pages.{Book}

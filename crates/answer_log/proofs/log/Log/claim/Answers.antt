@@ -1,4 +1,4 @@
-use Rattle.std.proofs.Common.{ℕ, ◌+◌, ◌++◌, [], refl, ap, sym, ◌∙◌, subst, arith, List}
+use Rattle.std.proofs.Common.{ℕ, ◌++◌, [], refl, ap, sym, ◌∙◌, subst, arith, List}
 use Rattle.std.specs.Arc.{arc_value}
 use Rattle.answer_log.specs.declared.event.Event.{Event}
 use Rattle.answer_log.specs.declared.event.Event.TheVariants.{Named}

@@ -1,4 +1,4 @@
-use Rattle.std.proofs.Common.{◌≡◌, ◌++◌, ℕ, List, refl, ap, sym, ◌∙◌}
+use Rattle.std.proofs.Common.{◌≡◌, ◌++◌, List, refl, ap, sym, ◌∙◌}
 use mathlib.Core.List.{IsPrefix}
 use Rattle.answer_log.specs.Counts.{count}
 use Rattle.answer_log.specs.Handles.{IsHandle}

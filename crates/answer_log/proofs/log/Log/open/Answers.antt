@@ -1,5 +1,4 @@
-use Rattle.std.proofs.Common.{ℕ, ◌≡◌, length, refl, ap, sym, ◌∙◌}
-use Rattle.logbook.specs.Pages.{Book}
+use Rattle.std.proofs.Common.{length, refl, ap, sym, ◌∙◌}
 use Rattle.answer_log.specs.Rules.{heads_of}
 use Rattle.answer_log.proofs.Openings.{kept_open, heads-length}
 use Rattle.answer_log.proofs.Trades.{counts_calm}
