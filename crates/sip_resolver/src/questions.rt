@@ -2,7 +2,7 @@
 ghost use Rattle.std.specs.Prelude.{◌≡◌, ◌⊎◌, ℕ, ◌≤◌, ◌↔◌, [], None, Err, IfErr, IfNone, IfOk, IfSome, IsTrue, MatchOption, OnErr};
 ghost use Rattle.answer_cache.specs.Seats.{SeatView};
 ghost use Rattle.std.specs.List.{All};
-ghost use Rattle.dns_queries.specs.Events.{Means, Refuses, asked as asked_too, closed as closed_in, left_by};
+ghost use Rattle.dns_queries.specs.Events.{MayWant, Means, Refuses, asked as asked_too, closed as closed_in, left_by};
 ghost use Rattle.dns_queries.specs.Out.{HasQuestion, LacksQuestion};
 ghost use Rattle.dns_queries.specs.Tickets.{ticket_of};
 ghost use Rattle.sip_resolver.specs.Ends.{EndsMore};
@@ -196,6 +196,7 @@ impl Questions {
         ensures means { IfOk result (Means (asking_over over self.old) octets.now) }
         ensures left { IfOk result (λ it. self.new ≡ left_over over it self.old) }
         ensures unchanged { OnErr result (self.new ≡ self.old) }
+        ensures wanted { OnErr result (MayWant (asking_over over self.old) octets.now) }
     {
         match over {
             DnsTransport::Datagram => heard(&mut self.datagrams, &mut self.datagram_ids, octets),
@@ -343,6 +344,7 @@ fn heard(asker: &mut Asker, ids: &mut QuestionTable, octets: &[u8]) -> Result<In
     ensures means { IfOk result (Means asker.old octets.now) }
     ensures left { IfOk result (λ it. asker.new ≡ left_by it asker.old) }
     ensures unchanged { OnErr result (asker.new ≡ asker.old) }
+    ensures wanted { OnErr result (MayWant asker.old octets.now) }
     ensures index { IsIndex (id_in ids.old) asker.old.tickets
         → IsIndex (id_in ids.new) asker.new.tickets }
 {

@@ -5,6 +5,7 @@ ghost use Rattle.std.specs.List.{All, Contains, sum_by};
 ghost use Rattle.answer_cache.specs.Seats.{GoesOn, SeatView, StoresNothing};
 ghost use Rattle.dns_answers.specs.Records.{kind_of};
 ghost use Rattle.dns_answers.specs.declared.refusal.ReplyRefusal.TheVariants as refusals;
+ghost use Rattle.dns_queries.specs.Events.{MayWant};
 ghost use Rattle.dns_queries.specs.Tickets.{usual};
 ghost use Rattle.dns_queries.specs.declared.incoming.Ending.TheVariants as endings;
 ghost use Rattle.sip_locator.specs.Replies.{Answers};
@@ -14,7 +15,7 @@ ghost use Rattle.sip_resolver.specs.Ends.{EndsMore, IsByChoice, IsByReply, IsMem
 ghost use Rattle.sip_resolver.specs.Expiries.{timeouts_of};
 ghost use Rattle.sip_resolver.specs.Idle.{AreAwaited, CannotAsk, IsIdle, IsOut};
 ghost use Rattle.sip_resolver.specs.Outcomes.{IsOutcome, Sought};
-ghost use Rattle.sip_resolver.specs.Questions.{IsLeast, count_out, schedule_of};
+ghost use Rattle.sip_resolver.specs.Questions.{IsLeast, asking_over, count_out, schedule_of};
 ghost use Rattle.sip_resolver.specs.Requests.{AreSame, IsAwaitedBy, IsBack, Stand, count_of, numbers_of, weight};
 ghost use Rattle.sip_resolver.specs.Resolvers.{Closes, Expires, GivesUpOn, HandsIn, HasRoomFor, Hears, IsCut, IsEnded, IsTaken, LeavesSeat, Polls, RefusesSubmit, begun_of, with_request};
 ghost use Rattle.sip_resolver.specs.Sends.{GivesUpBoth, IsInTime, SendsAfter, SendsFirst, tickets_of};
@@ -280,6 +281,8 @@ impl<B: AnswerBook, F: Facts, I: Ids + Drop> Resolver<B, F, I> {
         ensures hears { IfOk result (Hears self.old self.new over octets.now) }
         ensures untouched { IfOk result (LeavesSeat seat.old seat.new) }
         ensures unchanged { OnErr result ((self.new ≡ self.old) × (seat.new ≡ seat.old)) }
+        ensures wanted { OnErr result
+            (MayWant (asking_over over self.old.questions) octets.now) }
     {
         match self.questions.incoming(over, octets)? {
             Incoming::Ignored(why) => Ok(ReplyOutcome::Ignored(why)),

@@ -46,3 +46,9 @@ invariant_of-self-in-Stream c =
       datagrams = c.self.invariant.datagrams;
       streams = c.heard-in-Stream.ensures.index c.self.invariant.streams;
     }
+
+pub returns-in-Datagram-clause-wanted : goal.returns-in-Datagram-clause-wanted
+returns-in-Datagram-clause-wanted c = rw (c.in-Datagram.is, ← c.self.view_is) c.heard.ensures.wanted
+
+pub returns-in-Stream-clause-wanted : goal.returns-in-Stream-clause-wanted
+returns-in-Stream-clause-wanted c = rw (c.in-Stream.is, ← c.self.view_is) c.heard-in-Stream.ensures.wanted

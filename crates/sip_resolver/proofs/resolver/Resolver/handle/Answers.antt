@@ -1,4 +1,4 @@
-use Rattle.std.proofs.Common.{ap, ◌∙◌}
+use Rattle.std.proofs.Common.{ap, ◌∙◌, Result, Ok, Err, OnErr}
 use Rattle.sip_resolver.proofs.Awaiting.{closed-in}
 use Rattle.sip_resolver.specs.Requests.{RequestsView}
 use Rattle.sip_resolver.proofs.Standing.{nothing-not, works-not}
@@ -83,3 +83,10 @@ returns-else-retries_over_stream-clause-awaited g c =
     (λ it.
     rw (c.hear.ensures.asking, left, ap (λ (v : RequestsView). v.waiting) c.hear.ensures.settles.new_is)
     (closed-in c.args.over c.in-Ended.id c.self.inside.questions c.self.inside.requests.waiting it))
+
+pub returns-in_err-why-clause-wanted : goal.returns-in_err-why-clause-wanted
+returns-in_err-why-clause-wanted g c = wanted-by c.from_residual.result (rw (← c.self.view_is) c.in_err-why.ensures.wanted)
+  where
+    wanted-by : {X E P : Type 0} (it : Result X E) → P → OnErr it P
+    wanted-by (Ok x) p = tt
+    wanted-by (Err e) p = p
