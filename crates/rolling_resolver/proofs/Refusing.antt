@@ -1,6 +1,6 @@
--- Why a request is not taken in.
-use Rattle.std.proofs.Common.{◌≡◌, ◌<◌, ◌≤◌, ◌⊎◌, inl, inr, ℕ, arith}
-use Rattle.std.specs.Prelude.{IsSomeAnd}
+-- Why a request is not taken in, and what is so where memory is refused.
+use Rattle.std.proofs.Common.{◌≡◌, ◌<◌, ◌≤◌, ◌⊎◌, inl, inr, ℕ, arith, Result, Ok, Err}
+use Rattle.std.specs.Prelude.{IsSomeAnd, OnErr}
 use Rattle.std.specs.List.{Contains}
 use Rattle.sip_resolver.specs.Requests.{count_of, numbers_of}
 use Rattle.sip_resolver.specs.Resolvers.{RefusesSubmit}
@@ -21,3 +21,8 @@ refused-by it number Memory room apart none = (room, away)
     away : HasRequest number it → ⊥
     away (inl there) = none.1 there
     away (inr there) = apart there
+
+-- what is so in any case is so where memory is refused
+pub wanted-by : {X E P : Type 0} (it : Result X E) → P → OnErr it P
+wanted-by (Ok x) p = tt
+wanted-by (Err e) p = p

@@ -6,7 +6,7 @@ use Rattle.answer_cache.specs.Carried.{carried_stores, living_of}
 use Rattle.answer_cache.specs.Lists.{IsGroupCount, IsListSeat, offered_too, seat_at, stored_too}
 use Rattle.answer_cache.specs.Seats.{SeatView, offer_of}
 use Rattle.dns_answers.specs.Values.{AnswerValue}
-use Rattle.dns_queries.specs.Events.{Means, sent_octets}
+use Rattle.dns_queries.specs.Events.{MayWant, Means, sent_octets}
 use Rattle.dns_queries.specs.Tickets.{Ticket, ticket_of, usual}
 use Rattle.dns_queries.specs.declared.incoming.Ending.TheVariants as endings
 use Rattle.dns_queries.specs.declared.incoming.Incoming.TheVariants as incoming
@@ -277,6 +277,15 @@ pub record Learns (over : DnsTransport) (octets : List ℕ) (now : ℕ) (heard :
   pub hears : Hears old.core new.core over octets heard
   pub hands : HandsToBook over octets now old.core.questions old.seat new.seat
   pub leaves : LeavesSeat old.seat new.seat heard
+
+-- memory may be needed to read octets that came in over this
+abbrev pub MayWantOver : DnsTransport → List ℕ → GenerationView → Type 0
+MayWantOver over octets it = MayWant (asking_over over it.core.questions) octets
+
+-- so it is of one of the generations
+abbrev pub MayWantIn : DnsTransport → List ℕ → RollingView → Type 0
+MayWantIn over octets it =
+    MayWantOver over octets it.current ⊎ IsSomeAnd it.draining (MayWantOver over octets)
 
 -- the younger generation takes octets, and where that ignores them the older one
 pub data Receives (over : DnsTransport) (octets : List ℕ) (now : ℕ) (heard : ReplyOutcome)

@@ -11,7 +11,7 @@ ghost use Rattle.sip_resolver.specs.Requests.{AreSame, Stand, count_of, numbers_
 ghost use Rattle.sip_resolver.specs.Resolvers.{HasRoomFor, RefusesSubmit, with_request};
 ghost use Rattle.srv_choice.specs.Draws.{words_of};
 ghost use Rattle.rolling_resolver.specs.Inside.{weight_of, weight_with};
-ghost use Rattle.rolling_resolver.specs.Rolling.{CarriesOn, GivesUp, Holds, IsMark, IsOutOf, IsQuiet, IsWritten, Learns, TakesOut, begun_generation, other_mark};
+ghost use Rattle.rolling_resolver.specs.Rolling.{CarriesOn, GivesUp, Holds, IsMark, IsOutOf, IsQuiet, IsWritten, Learns, MayWantOver, TakesOut, begun_generation, other_mark};
 
 use crate::instant::Instant;
 use answer_cache::{ListCache, ListSeat};
@@ -263,6 +263,7 @@ impl Generation {
             (λ heard. Learns over octets.now at.now.second heard self.old self.new) }
         ensures same { AreSame self.old.core.requests self.new.core.requests }
         ensures unchanged { OnErr result (self.new ≡ self.old) }
+        ensures wanted { OnErr result (MayWantOver over octets.now self.old) }
     {
         let heard = self
             .core

@@ -10,7 +10,7 @@ ghost use Rattle.sip_resolver.specs.Requests.{count_of, numbers_of};
 ghost use Rattle.sip_resolver.specs.declared.resolver.ReplyOutcome.TheVariants.{Ignored};
 ghost use Rattle.rolling_resolver.specs.Inside.{GainsOne, LosesNumber, RefusesRequest, SameInside, count_inside, weight_of, weight_with};
 ghost use Rattle.rolling_resolver.specs.Rests.{AllRestOn, GainsFrom, KeepsAnswers, TellsOf};
-ghost use Rattle.rolling_resolver.specs.Rolling.{AreQuiet, Begins, GivesUpOf, GivesUpOlder, HasNone, HasNoneOlder, HasRequest, IsOutOf, IsQueryOut, IsQuiet, IsWrittenOf, Receives, ReceivesOlder, Renews, SameSeats, Takes, TakesIn, TakesOlder, Tells, begun_rolling, dues_in, older_dues, older_seat};
+ghost use Rattle.rolling_resolver.specs.Rolling.{AreQuiet, Begins, GivesUpOf, GivesUpOlder, HasNone, HasNoneOlder, HasRequest, IsOutOf, IsQueryOut, IsQuiet, IsWrittenOf, MayWantIn, MayWantOver, Receives, ReceivesOlder, Renews, SameSeats, Takes, TakesIn, TakesOlder, Tells, begun_rolling, dues_in, older_dues, older_seat};
 ghost use Rattle.rolling_resolver.specs.Stats.{AreCounted, of_older};
 
 use crate::counts::{Counts, Stats};
@@ -181,6 +181,29 @@ impl RollingResolver {
             Some(draining) => draining.has(number),
             None => false,
         }
+    }
+
+    /// Whether a request of this number is inside, or has an outcome that was not taken.
+    #[must_use]
+    pub fn has(&self, number: u64) -> bool
+        ensures { IsTrue result ↔ HasRequest number self.now }
+    {
+        self.current.has(number) || self.has_older(number)
+    }
+
+    /// Why a request of this number would be refused where memory is: memory is needed only for
+    /// what would be taken in.
+    #[must_use]
+    pub fn refusal(&self, number: u64) -> SubmitRefusal
+        ensures { RefusesRequest self.now number result }
+    {
+        if self.request_count() >= self.limits.requests {
+            return SubmitRefusal::Full;
+        }
+        if self.has(number) {
+            return SubmitRefusal::NumberTaken;
+        }
+        SubmitRefusal::Memory
     }
 
     /// Takes a request in, under this number. It ends by the moment `until`, if it has one.
@@ -366,6 +389,8 @@ impl RollingResolver {
         ensures receives { IfOk result
             (λ heard. ReceivesOlder over octets.now at.now.second why heard self.old self.new) }
         ensures unchanged { OnErr result (self.new ≡ self.old) }
+        ensures wanted { OnErr result
+            (IsSomeAnd self.old.draining (MayWantOver over octets.now)) }
         ensures inside { SameInside self.old self.new }
     {
         let Some(draining) = &mut self.draining else {
@@ -384,6 +409,7 @@ impl RollingResolver {
         ensures receives { IfOk result
             (λ heard. Receives over octets.now at.now.second heard self.old self.new) }
         ensures unchanged { OnErr result (self.new ≡ self.old) }
+        ensures wanted { OnErr result (MayWantIn over octets.now self.old) }
         ensures inside { SameInside self.old self.new }
     {
         match self.current.receive(at, over, octets)? {
@@ -402,6 +428,7 @@ impl RollingResolver {
         ensures receives { IfOk result
             (λ heard. Receives over octets.now at.now.second heard self.old self.new) }
         ensures unchanged { OnErr result (self.new ≡ self.old) }
+        ensures wanted { OnErr result (MayWantIn over octets.now self.old) }
         ensures inside { SameInside self.old self.new }
         ensures ignored { IfOk result (λ heard. (why : Why) → heard ≡ Ignored why
             → self.new ≡ self.old) }

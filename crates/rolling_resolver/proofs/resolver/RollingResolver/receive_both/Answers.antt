@@ -1,5 +1,7 @@
+use Rattle.std.proofs.Common.{inl}
 use Rattle.rolling_resolver.proofs.Inside.{younger-same}
 use Rattle.rolling_resolver.proofs.Receiving.{ignored-by-younger, older-takes, younger-takes}
+use Rattle.rolling_resolver.proofs.Refusing.{wanted-by}
 use Rattle.rolling_resolver.proofs.resolver.RollingResolver.receive_both.Goals as goal
 
 pub returns-in-Ignored-clause-receives : goal.returns-in-Ignored-clause-receives
@@ -22,6 +24,7 @@ returns-in_default c = record {
       (younger-takes c.args.over c.args.octets.now c.args.at.now.second _ c.in_ok-heard.heard c.receive.new.self
       c.in_ok-heard.ensures.learns);
   unchanged = tt;
+  wanted = tt;
   inside = rw (← c.self.view_is)
       (younger-same (record {
         told = c.self.inside.told;
@@ -29,3 +32,7 @@ returns-in_default c = record {
         draining = c.self.inside.draining;
       }) c.receive.new.self c.receive.ensures.same);
 }
+
+pub returns-in_err-heard-clause-wanted : goal.returns-in_err-heard-clause-wanted
+returns-in_err-heard-clause-wanted c =
+    wanted-by c.from_residual.result (rw (← c.self.view_is) (inl c.in_err-heard.ensures.wanted))
