@@ -120,8 +120,8 @@ typedef struct wokhleas_caps {
  * wokhleas_next tells its outcome or wokhleas_cancel withdraws it. Its outcome will have the number, which no other
  * request inside may have (say, the index of a transaction). A wokhleas_transmit at `until` or later, rounded up to a
  * second, ends it: by the answers that it has, or with WOKHLEAS_NO_ANSWER.
- * EARGUMENT: the caps, or a time of 2^48 seconds or more. ESYNTAX, EFULL, ETAKEN, ENOMEM: the request is not inside,
- * and all is as it was. */
+ * Else the request is not inside, and all is as it was; the first of these that is so is told: EARGUMENT, of the caps,
+ * or a time of 2^48 seconds or more; ESYNTAX, ECLOSED, EFULL, ETAKEN, ENOMEM. */
 int wokhleas_submit(wokhleas_resolver *resolver, uint64_t number, const char *text, size_t length,
                     const wokhleas_caps *caps, uint64_t until);
 

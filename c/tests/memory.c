@@ -106,8 +106,33 @@ static bool run(size_t granted, bool all) {
     return refused;
 }
 
+/* Memory is needed only for what would be taken in: a request that can't be is told of that, also without memory. */
+static void test_other_reasons(void) {
+    static const char text[] = "sip:user@a.host.with.a.name.that.is.long.example;transport=udp";
+    wokhleas_resolver resolver = WOKHLEAS_RESOLVER_INIT;
+    refuse_after(0, true);
+    EXPECT_STATUS(submit(&resolver, 1, text, &by_udp, WOKHLEAS_NEVER), WOKHLEAS_ECLOSED);
+    end_refusals();
+    open_resolver(&resolver, 2, 2, true);
+    EXPECT_STATUS(submit(&resolver, 1, text, &by_udp, WOKHLEAS_NEVER), WOKHLEAS_OK);
+    refuse_after(0, true);
+    EXPECT_STATUS(submit(&resolver, 2, text, &by_udp, WOKHLEAS_NEVER), WOKHLEAS_ENOMEM);
+    EXPECT_STATUS(submit(&resolver, 1, text, &by_udp, WOKHLEAS_NEVER), WOKHLEAS_ETAKEN);
+    EXPECT_STATUS(submit(&resolver, 1, "SIP/2.0/UDP a.host.example", &by_udp, WOKHLEAS_NEVER), WOKHLEAS_ETAKEN);
+    end_refusals();
+    EXPECT_STATUS(submit(&resolver, 2, text, &by_udp, WOKHLEAS_NEVER), WOKHLEAS_OK);
+    refuse_after(0, true);
+    EXPECT_STATUS(submit(&resolver, 1, text, &by_udp, WOKHLEAS_NEVER), WOKHLEAS_EFULL);
+    EXPECT_STATUS(submit(&resolver, 3, "SIP/2.0/UDP a.host.example", &by_udp, WOKHLEAS_NEVER), WOKHLEAS_EFULL);
+    EXPECT_STATUS(submit(&resolver, 3, "sip:", &by_udp, WOKHLEAS_NEVER), WOKHLEAS_ESYNTAX);
+    end_refusals();
+    wokhleas_close(&resolver);
+    EXPECT(octets_held(), 0);
+}
+
 int main(void) {
     size_t granted[2] = { 0, 0 };
+    test_other_reasons();
     found_none = has_memory_again;
     for (int all = 0; all < 2; all++)
         while (run(granted[all], all == 1)) granted[all]++;

@@ -4,4 +4,5 @@ pub mod Handling
 pub mod HeldSteps
 pub mod LooseValues
 pub mod Receiving
+pub mod Refusing
 pub mod Telling

@@ -1,5 +1,5 @@
 -- Requests that C hands in.
-use Rattle.std.specs.Prelude.{⊤, ◌≡◌, ◌≢◌, ◌⊎◌, ℕ, ◌-◌, ◌/◌, ◌≤◌, ◌^◌, List, Option, Some, None, IsSomeAnd}
+use Rattle.std.specs.Prelude.{◌≡◌, ◌≢◌, ◌⊎◌, ℕ, ◌-◌, ◌/◌, ◌≤◌, ◌^◌, List, Option, Some, None, IsSomeAnd}
 use Rattle.sip_resolver.specs.declared.refusal.SubmitRefusal.{SubmitRefusal}
 use Rattle.sip_resolver.specs.declared.refusal.SubmitRefusal.TheVariants as refusals
 use Rattle.sip_selection.specs.declared.caps.Caps.{Caps}
@@ -13,7 +13,7 @@ use Rattle.rolling_resolver.specs.Instants.{IsRoundedUp}
 use Rattle.rolling_resolver.specs.Rolling.{HasRequest, RollingView, SameSeats, TakesIn}
 use Rattle.wokhleas.specs.Numbers.{AreCapsOf, CannotBe}
 use Rattle.wokhleas.specs.declared.status.Status.{Status}
-use Rattle.wokhleas.specs.declared.status.Status.TheVariants.{Argument, Closed, Full, Memory, Nothing, Open, Room, Syntax, Taken}
+use Rattle.wokhleas.specs.declared.status.Status.TheVariants.{Argument, Closed, Full, Memory, Syntax, Taken}
 
 -- octets are a URI, or the value of a Via (RFC 3261 25.1)
 abbrev pub IsRequest : List ℕ → Request → Type 0
@@ -51,30 +51,22 @@ status_of refusals.Full = Full
 status_of refusals.NumberTaken = Taken
 status_of refusals.Memory = Memory
 
--- why a request is not taken in, by what a handle has afterwards, where it could be read
+-- why a request of a number is not taken in, by what a handle has afterwards: that is closed, or
+-- refuses it
 abbrev pub WhyNotTaken : ℕ → Option RollingView → Status → Type 0
-WhyNotTaken number after Closed = after ≡ None
-WhyNotTaken number after Full = IsSomeAnd after (λ it. RefusesRequest it number refusals.Full)
-WhyNotTaken number after Taken =
-    IsSomeAnd after (λ it. RefusesRequest it number refusals.NumberTaken)
-WhyNotTaken number after Memory = ⊤
-WhyNotTaken number after Nothing = ⊥
-WhyNotTaken number after Argument = ⊥
-WhyNotTaken number after Open = ⊥
-WhyNotTaken number after Syntax = ⊥
-WhyNotTaken number after Room = ⊥
+WhyNotTaken number after status =
+    ((status ≡ Closed) × (after ≡ None))
+    ⊎ ((refusal : SubmitRefusal) × (status ≡ status_of refusal)
+    × IsSomeAnd after (λ it. RefusesRequest it number refusal))
+
+-- octets are the value of a Via
+abbrev pub IsVia : List ℕ → Type 0
+IsVia octets = (via : vias.Via) × ViaText octets via
 
 -- why the response to the Via of a text is not taken in: the text is no Via, or for that
 abbrev pub WhyNoVia : ℕ → List ℕ → Option RollingView → Status → Type 0
-WhyNoVia number octets after Syntax = (via : vias.Via) → ViaText octets via → ⊥
-WhyNoVia number octets after Closed = WhyNotTaken number after Closed
-WhyNoVia number octets after Full = WhyNotTaken number after Full
-WhyNoVia number octets after Taken = WhyNotTaken number after Taken
-WhyNoVia number octets after Memory = ⊤
-WhyNoVia number octets after Nothing = ⊥
-WhyNoVia number octets after Argument = ⊥
-WhyNoVia number octets after Open = ⊥
-WhyNoVia number octets after Room = ⊥
+WhyNoVia number octets after status =
+    ((status ≡ Syntax) × (IsVia octets → ⊥)) ⊎ (IsVia octets × WhyNotTaken number after status)
 
 -- no caller has the transports and the families of these numbers, or a moment by which a request
 -- ends is 2^48 seconds or more
@@ -83,23 +75,25 @@ IsOutOfRange transports families milliseconds =
     CannotBe transports families
     ⊎ ((milliseconds ≢ 2 ^ 64 - 1) × (2 ^ 48 ≤ milliseconds / 1000))
 
--- why the request of a text is not taken in: its arguments are out of their range, the text is
--- neither a URI nor a Via, or for what `WhyNotTaken` says
+-- numbers stand for what a caller can do, and for the moment by which a request ends
+abbrev pub IsInRange : List ℕ → ℕ → ℕ → Type 0
+IsInRange transports families milliseconds =
+    ((caps : Caps) × AreCapsOf transports families caps)
+    × ((until : Option ℕ) × IsUntil milliseconds until)
+
+-- octets are a URI, or the value of a Via
+abbrev pub IsRequestText : List ℕ → Type 0
+IsRequestText octets = (request : Request) × IsRequest octets request
+
+-- why the request of a text is not taken in, in the order of the checks: an argument is out of its
+-- range, the text is neither a URI nor a Via, or for what `WhyNotTaken` says
 abbrev pub WhyNotSubmitted : ℕ → List ℕ → List ℕ → ℕ → ℕ → Option RollingView → Status → Type 0
-WhyNotSubmitted number octets transports families milliseconds after Argument =
-    IsOutOfRange transports families milliseconds
-WhyNotSubmitted number octets transports families milliseconds after Syntax =
-    (request : Request) → IsRequest octets request → ⊥
-WhyNotSubmitted number octets transports families milliseconds after Nothing = ⊥
-WhyNotSubmitted number octets transports families milliseconds after Closed =
-    WhyNotTaken number after Closed
-WhyNotSubmitted number octets transports families milliseconds after Open = ⊥
-WhyNotSubmitted number octets transports families milliseconds after Memory = ⊤
-WhyNotSubmitted number octets transports families milliseconds after Full =
-    WhyNotTaken number after Full
-WhyNotSubmitted number octets transports families milliseconds after Taken =
-    WhyNotTaken number after Taken
-WhyNotSubmitted number octets transports families milliseconds after Room = ⊥
+WhyNotSubmitted number octets transports families milliseconds after status =
+    ((status ≡ Argument) × IsOutOfRange transports families milliseconds)
+    ⊎ ((status ≡ Syntax) × IsInRange transports families milliseconds
+    × (IsRequestText octets → ⊥))
+    ⊎ (IsInRange transports families milliseconds × IsRequestText octets
+    × WhyNotTaken number after status)
 
 -- the request of this number, which was inside, is cancelled: none of the number is inside any
 -- more, all others are, and the seats are as they were

@@ -1,5 +1,5 @@
 -- The numbers that tell C why a call is not done.
-use Rattle.std.specs.Prelude.{ℕ}
+use Rattle.std.specs.Prelude.{◌≡◌, ℕ, ℤ, pos}
 use Rattle.wokhleas.specs.declared.status.Status.{Status}
 use Rattle.wokhleas.specs.declared.status.Status.TheVariants.{Nothing, Argument, Closed, Open, Memory, Syntax, Full, Taken, Room}
 
@@ -15,18 +15,6 @@ code_of Full = 7
 code_of Taken = 8
 code_of Room = 9
 
--- that of a call to a resolver that is closed
-abbrev pub closed : ℕ
-closed = code_of Closed
-
--- that of an argument that is out of its range
-abbrev pub argument : ℕ
-argument = code_of Argument
-
--- that of a resolver that is to be opened and is open
-abbrev pub opened : ℕ
-opened = code_of Open
-
--- that of a call for which there is nothing
-abbrev pub nothing : ℕ
-nothing = code_of Nothing
+-- a call that is not done tells the number of a status, for which this is so
+abbrev pub IsRefused : (Status → Type 0) → ℤ → Type 0
+IsRefused why result = (status : Status) × (result ≡ pos (code_of status)) × why status

@@ -1,5 +1,5 @@
 -- What C is told of a request that ended, in the numbers of its header.
-use Rattle.std.specs.Prelude.{◌≡◌, ℕ, List, [], ◌∷◌, ◌++◌, drop, length, Option, Some, None, option_and_then, slice_get}
+use Rattle.std.specs.Prelude.{◌≡◌, ◌⊎◌, ℕ, ◌<◌, List, [], ◌∷◌, ◌++◌, drop, length, Option, Some, None, IsSomeAnd, option_and_then, slice_get}
 use Rattle.std.specs.Option.{option_map}
 use Rattle.dns_answers.specs.declared.refusal.ReplyRefusal.{ReplyRefusal}
 use Rattle.dns_answers.specs.declared.refusal.ReplyRefusal.TheVariants.{NotReply, OtherQuestion, Truncated, ServerFault}
@@ -16,8 +16,11 @@ use Rattle.rolling_resolver.specs.Rolling.{RollingView, Tells}
 use Rattle.sip_selection.specs.declared.reason.Reason.{Reason}
 use Rattle.sip_selection.specs.declared.reason.Reason.TheVariants.{TransportUnsupported, TransportNotSecure, NotOffered, NoAddress}
 use Rattle.sip_selection.specs.declared.target.Target.{Target}
+use Rattle.wokhleas.specs.Handles.{WhyNothing}
 use Rattle.wokhleas.specs.Numbers.{number_of}
 use Rattle.wokhleas.specs.declared.outcomes.ToldQuestion.{ToldQuestion}
+use Rattle.wokhleas.specs.declared.status.Status.{Status}
+use Rattle.wokhleas.specs.declared.status.Status.TheVariants as statuses
 use Rattle.wokhleas.specs.declared.told.ToldOutcome.{ToldOutcome}
 use Rattle.wokhleas.specs.declared.told.ToldTarget.{ToldTarget}
 
@@ -127,3 +130,12 @@ pub record IsQuestionTold (told : ToldQuestion) (before after : List ℕ) (quest
   pub text : after ≡ text_of question.name ++ drop told.length before
   pub long : told.length ≡ length (text_of question.name)
   pub type : told.type_number ≡ type_of_kind question.kind
+
+-- why a question is not told into a buffer with so much room: the resolver is closed, no answer is
+-- lacked, memory is refused, or the text of the name is too long
+abbrev pub WhyNoQuestion : ℕ → Option RollingView → Status → Type 0
+WhyNoQuestion room state status =
+    WhyNothing (λ it. question_lacked (Some it) ≡ None) state status
+    ⊎ ((question : Question) × (question_lacked state ≡ Some question)
+    × ((status ≡ statuses.Memory)
+    ⊎ ((status ≡ statuses.Room) × (room < length (text_of question.name)))))

@@ -1,11 +1,11 @@
 //! A resolver begins and ends.
-ghost use Rattle.std.specs.Prelude.{◌≡◌, ◌≢◌, ◌↔◌, ◌⊎◌, ◌≤◌, ◌/◌, [], None, Some, IfErr, IfNone, IfSome, IsSome, OnErr, OnOk, pos};
+ghost use Rattle.std.specs.Prelude.{◌≡◌, ◌≢◌, ◌≤◌, ◌/◌, [], None, Some, IfErr, IfNone, IfSome, OnErr, OnOk, pos};
 ghost use Rattle.sip_resolver.specs.declared.resolver.Limits as limits;
 ghost use Rattle.rolling_resolver.specs.Rests.{AllRestOn};
 ghost use Rattle.answer_cache.specs.Lists.{IsGroupCount};
 ghost use Rattle.rolling_resolver.specs.Rolling.{AreInRange, begun_rolling};
-ghost use Rattle.wokhleas.specs.Limits.{AreCounts, AreLimits};
-ghost use Rattle.wokhleas.specs.Statuses.{argument, opened};
+ghost use Rattle.wokhleas.specs.Limits.{AreCounts, AreLimits, WhyNotBegun, WhyNotOpened};
+ghost use Rattle.wokhleas.specs.Statuses.{IsRefused};
 
 use crate::handle::Handle;
 use crate::status::{DONE, Status};
@@ -41,7 +41,8 @@ fn limits_of(requests: usize, questions: usize, streams: bool) -> Option<Limits>
 
 /// Of how many groups a book is; None where it can't be of so many.
 fn groups_of(groups: usize) -> Option<u32>
-    ensures is { IfSome result (λ it. (it ≡ groups) × IsGroupCount it) }
+    ensures is { IfSome result (λ it. it ≡ groups) }
+    ensures valid { IfSome result (λ it. IsGroupCount it × IsGroupCount groups) }
     ensures none { IfNone result (IsGroupCount groups → ⊥) }
 {
     let groups = u32::try_from(groups).ok()?;
@@ -61,10 +62,7 @@ fn open(
     requires groups { IsGroupCount groups }
     ensures was_closed { OnOk result (handle.old.held.state ≡ None) }
     ensures begun { OnOk result (handle.new.held.state ≡ Some (begun_rolling groups limits)) }
-    ensures refused { IfErr result (λ status. ((status ≡ Status.Open)
-        × IsSome handle.old.held.state) ⊎ ((status ≡ Status.Memory)
-        × (handle.old.held.state ≡ None))) }
-    ensures good { IfErr result (λ status. status ≡ Status.Argument → ⊥) }
+    ensures refused { IfErr result (WhyNotBegun handle.old.held.state) }
     ensures answers { OnOk result (IfSome handle.new.held.state (λ state. AllRestOn [] state)) }
     ensures unchanged { OnErr result (handle.new.held.state ≡ handle.old.held.state) }
 {
@@ -97,18 +95,19 @@ pub extern "C" fn wokhleas_raw_open(
         × (limits.streams ≡ streams)
         × (handle.new.held.state ≡ Some (begun_rolling groups limits)) }
     ensures in_range { result ≡ pos 0 → AreLimits requests questions groups }
-    ensures argument { result ≡ pos argument → AreLimits requests questions groups → ⊥ }
-    ensures bad { (AreLimits requests questions groups → ⊥) → result ≡ pos argument }
-    ensures open { result ≡ pos opened → IsSome handle.old.held.state }
+    ensures refused { result ≢ pos 0
+        → IsRefused (WhyNotOpened requests questions groups handle.old.held.state) result }
     ensures answers { result ≡ pos 0
         → IfSome handle.new.held.state (λ state. AllRestOn [] state) }
     ensures unchanged { result ≢ pos 0 → handle.new.held.state ≡ handle.old.held.state }
 {
-    let (Some(limits), Some(groups)) = (limits_of(requests, questions, streams), groups_of(groups))
-    else {
+    let Some(limits) = limits_of(requests, questions, streams) else {
         return Status::Argument.code();
     };
-    match open(alloc, handle, limits, groups, *seed) {
+    let Some(count) = groups_of(groups) else {
+        return Status::Argument.code();
+    };
+    match open(alloc, handle, limits, count, *seed) {
         Ok(()) => DONE,
         Err(status) => status.code(),
     }

@@ -1,13 +1,12 @@
 //! What became of requests.
-ghost use Rattle.std.specs.Prelude.{◌≡◌, ◌≢◌, ◌↔◌, ◌<◌, None, Some, Err, IfNone, IfOk, IfSome, IsSome, MatchOption, OnErr, OnOk, length, pos};
+ghost use Rattle.std.specs.Prelude.{◌≡◌, ◌≢◌, None, Some, IfErr, IfNone, IfOk, IfSome, IsSome, MatchOption, OnErr, OnOk, length, pos};
 ghost use Rattle.dns_message.specs.declared.question.Question.{Question};
-ghost use Rattle.dns_name.specs.Texts.{text_of};
 ghost use Rattle.rolling_resolver.specs.Rests.{KeepsAnswers, TellsOf};
 ghost use Rattle.rolling_resolver.specs.Rolling.{HasNone};
-ghost use Rattle.wokhleas.specs.Handles.{GoesBy, StaysBy};
+ghost use Rattle.wokhleas.specs.Handles.{GoesBy, StaysBy, WhyNothing};
 ghost use Rattle.wokhleas.specs.Told.{IsTold, target_told_at};
 ghost use Rattle.wokhleas.specs.Told as spec;
-ghost use Rattle.wokhleas.specs.Statuses.{closed};
+ghost use Rattle.wokhleas.specs.Statuses.{IsRefused};
 
 use crate::handle::Handle;
 use crate::status::{DONE, Status};
@@ -46,9 +45,8 @@ fn next(alloc: Global, handle: &mut Handle) -> Result<ToldOutcome, Status>
         (λ told. GoesBy (IsTold told) handle.old.held.state handle.new.held.state) }
     ensures chosen { OnOk result (GoesBy TellsOf handle.old.held.state handle.new.held.state) }
     ensures answers { StaysBy KeepsAnswers handle.old.held.state handle.new.held.state }
+    ensures refused { IfErr result (WhyNothing HasNone handle.old.held.state) }
     ensures unchanged { OnErr result (handle.new.held.state ≡ handle.old.held.state) }
-    ensures none { OnErr result (IfSome handle.old.held.state (λ state. HasNone state)) }
-    ensures is_closed { (result ≡ Err Status.Closed) ↔ (handle.old.held.state ≡ None) }
 {
     let mut resolver = handle.take(alloc)?;
     let told = tell_next(&mut resolver);
@@ -69,9 +67,9 @@ fn told_target(resolver: &RollingResolver, index: usize) -> Option<ToldTarget>
 /// A target of the outcome that was told last.
 fn target(alloc: Global, handle: &mut Handle, index: usize) -> Result<ToldTarget, Status>
     ensures told { IfOk result (λ told. target_told_at index handle.old.held.state ≡ Some told) }
-    ensures none { OnErr result (target_told_at index handle.old.held.state ≡ None) }
+    ensures refused { IfErr result
+        (WhyNothing (λ it. target_told_at index (Some it) ≡ None) handle.old.held.state) }
     ensures same { handle.new.held.state ≡ handle.old.held.state }
-    ensures is_closed { (result ≡ Err Status.Closed) ↔ (handle.old.held.state ≡ None) }
 {
     let resolver = handle.take(alloc)?;
     let told = told_target(&resolver, index);
@@ -95,13 +93,9 @@ fn write_question(resolver: &RollingResolver, name: &mut [u8]) -> Result<ToldQue
     ensures told { IfOk result (λ told. (question : Question)
         × (spec.question_lacked (Some resolver.now) ≡ Some question)
         × spec.IsQuestionTold told name.old name.new question) }
+    ensures refused { IfErr result
+        (spec.WhyNoQuestion (length name.old) (Some resolver.now)) }
     ensures unchanged { OnErr result (name.new ≡ name.old) }
-    ensures nothing { (result ≡ Err Status.Nothing)
-        ↔ (spec.question_lacked (Some resolver.now) ≡ None) }
-    ensures open { result ≡ Err Status.Closed → ⊥ }
-    ensures room { result ≡ Err Status.Room → (question : Question)
-        × (spec.question_lacked (Some resolver.now) ≡ Some question)
-        × (length name.old < length (text_of question.name)) }
 {
     let Some(question) = told_question(resolver) else {
         return Err(Status::Nothing);
@@ -125,9 +119,10 @@ fn question(alloc: Global, handle: &mut Handle, name: &mut [u8]) -> Result<ToldQ
     ensures told { IfOk result (λ told. (question : Question)
         × (spec.question_lacked handle.old.held.state ≡ Some question)
         × spec.IsQuestionTold told name.old name.new question) }
+    ensures refused { IfErr result
+        (spec.WhyNoQuestion (length name.old) handle.old.held.state) }
     ensures unchanged { OnErr result (name.new ≡ name.old) }
     ensures same { handle.new.held.state ≡ handle.old.held.state }
-    ensures is_closed { (result ≡ Err Status.Closed) ↔ (handle.old.held.state ≡ None) }
 {
     let resolver = handle.take(alloc)?;
     let told = write_question(&resolver, name);
@@ -146,11 +141,11 @@ pub extern "C" fn wokhleas_raw_next(
         → GoesBy (IsTold outcome.new) handle.old.held.state handle.new.held.state }
     ensures chosen { result ≡ pos 0
         → GoesBy TellsOf handle.old.held.state handle.new.held.state }
+    ensures refused { result ≢ pos 0
+        → IsRefused (WhyNothing HasNone handle.old.held.state) result }
     ensures unchanged { result ≢ pos 0 → (handle.new.held.state ≡ handle.old.held.state)
         × (outcome.new ≡ outcome.old) }
-    ensures none { result ≢ pos 0 → IfSome handle.old.held.state (λ state. HasNone state) }
     ensures answers { StaysBy KeepsAnswers handle.old.held.state handle.new.held.state }
-    ensures is_closed { (result ≡ pos closed) ↔ (handle.old.held.state ≡ None) }
 {
     match next(alloc, handle) {
         Ok(told) => {
@@ -171,10 +166,11 @@ pub extern "C" fn wokhleas_raw_get_target(
 ) -> i32
     ensures told { result ≡ pos 0
         → target_told_at index handle.old.held.state ≡ Some target_told.new }
-    ensures none { result ≢ pos 0 → (target_told_at index handle.old.held.state ≡ None)
-        × (target_told.new ≡ target_told.old) }
+    ensures refused { result ≢ pos 0
+        → IsRefused (WhyNothing (λ it. target_told_at index (Some it) ≡ None)
+        handle.old.held.state) result }
+    ensures unchanged { result ≢ pos 0 → target_told.new ≡ target_told.old }
     ensures same { handle.new.held.state ≡ handle.old.held.state }
-    ensures is_closed { (result ≡ pos closed) ↔ (handle.old.held.state ≡ None) }
 {
     match target(alloc, handle, index) {
         Ok(told) => {
@@ -196,10 +192,11 @@ pub extern "C" fn wokhleas_raw_get_question(
     ensures told { result ≡ pos 0 → (question : Question)
         × (spec.question_lacked handle.old.held.state ≡ Some question)
         × spec.IsQuestionTold question_told.new name.old name.new question }
+    ensures refused { result ≢ pos 0
+        → IsRefused (spec.WhyNoQuestion (length name.old) handle.old.held.state) result }
     ensures unchanged { result ≢ pos 0 → (name.new ≡ name.old)
         × (question_told.new ≡ question_told.old) }
     ensures same { handle.new.held.state ≡ handle.old.held.state }
-    ensures is_closed { (result ≡ pos closed) ↔ (handle.old.held.state ≡ None) }
 {
     match question(alloc, handle, name) {
         Ok(told) => {

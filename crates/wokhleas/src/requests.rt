@@ -1,14 +1,13 @@
 //! Requests come in.
-ghost use Rattle.std.specs.Prelude.{◌≡◌, ◌≢◌, ◌↔◌, ◌-◌, ◌/◌, ◌≤◌, ◌^◌, IfErr, IfOk, IfSome, OnErr, OnOk, pos, None, Err};
+ghost use Rattle.std.specs.Prelude.{◌≡◌, ◌≢◌, ◌-◌, ◌/◌, ◌≤◌, ◌^◌, IfErr, IfOk, OnErr, OnOk, pos};
 ghost use Rattle.sip_selection.specs.declared.request.Request.TheVariants.{Uri};
 ghost use Rattle.sip_uri.specs.Views.{IsUriView, uri_of};
 ghost use Rattle.rolling_resolver.specs.Inside.{GainsOne, SameInside};
 ghost use Rattle.rolling_resolver.specs.Rests.{KeepsAnswers};
 ghost use Rattle.rolling_resolver.specs.Rolling.{HasRequest, Renews, TakesIn};
-ghost use Rattle.wokhleas.specs.Handles.{GoesBy, StaysBy};
+ghost use Rattle.wokhleas.specs.Handles.{GoesBy, StaysBy, WhyNothing};
 ghost use Rattle.wokhleas.specs.Requests.{Cancels, IsSubmitted, IsTakenIn, IsUntil, WhyNoVia, WhyNotSubmitted, WhyNotTaken};
-ghost use Rattle.wokhleas.specs.Statuses.{closed, code_of};
-ghost use Rattle.wokhleas.specs.declared.status.Status.{Status as Refusal};
+ghost use Rattle.wokhleas.specs.Statuses.{IsRefused};
 
 use crate::handle::Handle;
 use crate::numbers::caps_of;
@@ -65,6 +64,22 @@ fn submit(
     }
 }
 
+/// Why a request of this number is not taken in where memory is refused for it.
+#[cold]
+fn why_not_taken(alloc: Global, handle: &mut Handle, number: u64) -> Status
+    ensures why { WhyNotTaken number handle.new.held.state result }
+    ensures same { handle.new.held.state ≡ handle.old.held.state }
+{
+    match handle.take(alloc) {
+        Ok(resolver) => {
+            let refusal = resolver.refusal(number);
+            handle.put(resolver);
+            Status::from(refusal)
+        }
+        Err(status) => status,
+    }
+}
+
 /// Hands a request to the URI of a text to a resolver.
 #[inline(always)]
 fn submit_uri(
@@ -88,7 +103,7 @@ fn submit_uri(
     ensures answers { StaysBy KeepsAnswers handle.old.held.state handle.new.held.state }
 {
     let Ok(uri) = parts.to_uri(alloc) else {
-        return Err(Status::Memory);
+        return Err(why_not_taken(alloc, handle, number));
     };
     submit(alloc, handle, number, Request::Uri(uri), caps, until)
 }
@@ -115,7 +130,7 @@ fn submit_via(
         return Err(Status::Syntax);
     };
     let Ok(via) = parts.to_via(alloc) else {
-        return Err(Status::Memory);
+        return Err(why_not_taken(alloc, handle, number));
     };
     submit(alloc, handle, number, Request::Via(via), caps, until)
 }
@@ -156,10 +171,9 @@ fn cancel(alloc: Global, handle: &mut Handle, number: u64) -> Result<(), Status>
     ensures cancelled { OnOk result
         (GoesBy (Cancels number) handle.old.held.state handle.new.held.state) }
     ensures unchanged { OnErr result (handle.new.held.state ≡ handle.old.held.state) }
-    ensures none { OnErr result
-        (IfSome handle.old.held.state (λ state. HasRequest number state → ⊥)) }
+    ensures refused { IfErr result
+        (WhyNothing (λ state. HasRequest number state → ⊥) handle.old.held.state) }
     ensures answers { StaysBy KeepsAnswers handle.old.held.state handle.new.held.state }
-    ensures is_closed { (result ≡ Err Status.Closed) ↔ (handle.old.held.state ≡ None) }
 {
     let mut resolver = handle.take(alloc)?;
     let found = resolver.cancel(number);
@@ -181,9 +195,9 @@ pub extern "C" fn wokhleas_raw_submit(
     ensures submitted { result ≡ pos 0
         → GoesBy (IsSubmitted number text.now transports.now families until)
         handle.old.held.state handle.new.held.state }
-    ensures refused { result ≢ pos 0 → (status : Refusal) × (result ≡ pos (code_of status))
-        × WhyNotSubmitted number text.now transports.now families until handle.new.held.state
-        status }
+    ensures refused { result ≢ pos 0
+        → IsRefused (WhyNotSubmitted number text.now transports.now families until
+        handle.new.held.state) result }
     ensures inside { result ≢ pos 0
         → StaysBy SameInside handle.old.held.state handle.new.held.state }
     ensures renews { StaysBy Renews handle.old.held.state handle.new.held.state }
@@ -201,10 +215,10 @@ pub extern "C" fn wokhleas_raw_cancel(alloc: Global, handle: &mut Handle, number
     ensures cancelled { result ≡ pos 0
         → GoesBy (Cancels number) handle.old.held.state handle.new.held.state }
     ensures unchanged { result ≢ pos 0 → handle.new.held.state ≡ handle.old.held.state }
-    ensures none { result ≢ pos 0
-        → IfSome handle.old.held.state (λ state. HasRequest number state → ⊥) }
+    ensures refused { result ≢ pos 0
+        → IsRefused (WhyNothing (λ state. HasRequest number state → ⊥) handle.old.held.state)
+        result }
     ensures answers { StaysBy KeepsAnswers handle.old.held.state handle.new.held.state }
-    ensures is_closed { (result ≡ pos closed) ↔ (handle.old.held.state ≡ None) }
 {
     match cancel(alloc, handle, number) {
         Ok(()) => DONE,

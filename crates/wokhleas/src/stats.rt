@@ -1,7 +1,8 @@
 //! What is counted of a resolver.
-ghost use Rattle.std.specs.Prelude.{◌≡◌, ◌≢◌, ◌↔◌, IfOk, IsSomeAnd, OnErr, None, pos, Err};
+ghost use Rattle.std.specs.Prelude.{◌≡◌, ◌≢◌, IfErr, IfOk, IsSomeAnd, pos};
 ghost use Rattle.rolling_resolver.specs.Stats.{AreCounted};
-ghost use Rattle.wokhleas.specs.Statuses.{closed};
+ghost use Rattle.wokhleas.specs.Handles.{WhyNothing};
+ghost use Rattle.wokhleas.specs.Statuses.{IsRefused};
 
 use crate::handle::Handle;
 use crate::status::{DONE, Status};
@@ -12,9 +13,8 @@ use std::alloc::Global;
 fn counted(alloc: Global, handle: &mut Handle) -> Result<Stats, Status>
     ensures counted { IfOk result
         (λ stats. IsSomeAnd handle.old.held.state (AreCounted stats)) }
-    ensures closed { OnErr result (handle.old.held.state ≡ None) }
+    ensures refused { IfErr result (WhyNothing (λ _. ⊥) handle.old.held.state) }
     ensures same { handle.new.held.state ≡ handle.old.held.state }
-    ensures is_closed { (result ≡ Err Status.Closed) ↔ (handle.old.held.state ≡ None) }
 {
     let resolver = handle.take(alloc)?;
     let stats = resolver.stats();
@@ -31,10 +31,10 @@ pub extern "C" fn wokhleas_raw_stats(
 ) -> i32
     ensures counted { result ≡ pos 0
         → IsSomeAnd handle.old.held.state (AreCounted stats_told.new) }
-    ensures closed { result ≢ pos 0 → (handle.old.held.state ≡ None)
-        × (stats_told.new ≡ stats_told.old) }
+    ensures refused { result ≢ pos 0
+        → IsRefused (WhyNothing (λ _. ⊥) handle.old.held.state) result }
+    ensures unchanged { result ≢ pos 0 → stats_told.new ≡ stats_told.old }
     ensures same { handle.new.held.state ≡ handle.old.held.state }
-    ensures is_closed { (result ≡ pos closed) ↔ (handle.old.held.state ≡ None) }
 {
     match counted(alloc, handle) {
         Ok(stats) => {

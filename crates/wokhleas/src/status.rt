@@ -1,5 +1,5 @@
 //! What C is told of a call: that it is done, or why not.
-ghost use Rattle.std.specs.Prelude.{◌≡◌, ◌≢◌, ◌↔◌, pos};
+ghost use Rattle.std.specs.Prelude.{◌≡◌, ◌≢◌, pos};
 ghost use Rattle.wokhleas.specs.Statuses as spec;
 
 use sip_resolver::SubmitRefusal;
@@ -35,10 +35,6 @@ impl Status {
     pub(crate) fn code(self) -> i32
         ensures number { result ≡ pos (spec.code_of self) }
         ensures fault { result ≢ pos 0 }
-        ensures closed { (result ≡ pos spec.closed) ↔ (self ≡ Status.Closed) }
-        ensures nothing { (result ≡ pos spec.nothing) ↔ (self ≡ Status.Nothing) }
-        ensures argument { (result ≡ pos spec.argument) ↔ (self ≡ Status.Argument) }
-        ensures opened { (result ≡ pos spec.opened) ↔ (self ≡ Status.Open) }
     {
         match self {
             Status::Nothing => 1,

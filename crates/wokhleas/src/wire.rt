@@ -1,15 +1,15 @@
 //! What goes out, what comes in, and when.
-ghost use Rattle.std.specs.Prelude.{◌≡◌, ◌≢◌, ◌↔◌, ◌/◌, [], IfErr, IfOk, IfSome, IsSomeAnd, OnErr, OnOk, Some, length, pos, None, Err};
+ghost use Rattle.std.specs.Prelude.{◌≡◌, ◌≢◌, ◌/◌, [], IfErr, IfOk, IsSomeAnd, OnErr, OnOk, Some, length, pos};
 ghost use Rattle.dns_queries.specs.declared.incoming.Why.{Why};
 ghost use Rattle.sip_resolver.specs.Questions.{IsLeast};
 ghost use Rattle.sip_resolver.specs.declared.resolver.ReplyOutcome.TheVariants.{Ignored};
 ghost use Rattle.rolling_resolver.specs.Inside.{SameInside};
 ghost use Rattle.rolling_resolver.specs.Rests.{GainsFrom, KeepsAnswers};
 ghost use Rattle.rolling_resolver.specs.Rolling.{AreQuiet, GivesUpOf, IsQueryOut, IsWrittenOf, SameSeats, dues_in};
-ghost use Rattle.wokhleas.specs.Handles.{GoesBy, StaysBy};
+ghost use Rattle.wokhleas.specs.Handles.{GoesBy, StaysBy, WhyNothing};
 ghost use Rattle.wokhleas.specs.Numbers.{number_of_over};
-ghost use Rattle.wokhleas.specs.Wires.{IsLeft, IsReceived, IsTransmitted};
-ghost use Rattle.wokhleas.specs.Statuses.{closed, nothing};
+ghost use Rattle.wokhleas.specs.Wires.{IsLeft, IsReceived, IsTransmitted, WhyNotHeard, WhyNotReceived, WhyNotTransmitted};
+ghost use Rattle.wokhleas.specs.Statuses.{IsRefused};
 
 use crate::handle::Handle;
 use crate::numbers::{number_of_over, over_of};
@@ -44,9 +44,9 @@ fn transmit(
 ) -> Result<Sent, Status>
     ensures query { IfOk result (λ sent. GoesBy (λ old new. IsWrittenOf sent octets.new new)
         handle.old.held.state handle.new.held.state) }
-    ensures quiet { result ≡ Err Status.Nothing → IsSomeAnd handle.new.held.state
-        (AreQuiet ⟦<QueryIds as Ids>⟧.draws at.second (length octets.old)) }
-    ensures is_closed { (result ≡ Err Status.Closed) ↔ (handle.old.held.state ≡ None) }
+    ensures refused { IfErr result
+        (WhyNothing (AreQuiet ⟦<QueryIds as Ids>⟧.draws at.second (length octets.old))
+        handle.new.held.state) }
     ensures seats { StaysBy SameSeats handle.old.held.state handle.new.held.state }
     ensures inside { StaysBy SameInside handle.old.held.state handle.new.held.state }
     ensures answers { StaysBy KeepsAnswers handle.old.held.state handle.new.held.state }
@@ -71,8 +71,9 @@ fn receive(
     ensures received { OnOk result (GoesBy (IsReceived (number_of_over over) octets.now at.second)
         handle.old.held.state handle.new.held.state) }
     ensures unchanged { OnErr result (handle.new.held.state ≡ handle.old.held.state) }
+    ensures refused { IfErr result
+        (WhyNotHeard over octets.now at.second handle.old.held.state) }
     ensures inside { StaysBy SameInside handle.old.held.state handle.new.held.state }
-    ensures is_closed { (result ≡ Err Status.Closed) ↔ (handle.old.held.state ≡ None) }
     ensures answers { StaysBy (GainsFrom octets.now)
         handle.old.held.state handle.new.held.state }
 {
@@ -101,13 +102,12 @@ fn is_reply(heard: ReplyOutcome) -> Result<(), Status>
 fn give_up(alloc: Global, handle: &mut Handle, query: u32) -> Result<(), Status>
     ensures gives_up { OnOk result
         (GoesBy (GivesUpOf query) handle.old.held.state handle.new.held.state) }
-    ensures none { OnErr result
-        (IfSome handle.old.held.state (λ state. IsQueryOut query state → ⊥)) }
+    ensures refused { IfErr result
+        (WhyNothing (λ state. IsQueryOut query state → ⊥) handle.old.held.state) }
     ensures seats { StaysBy SameSeats handle.old.held.state handle.new.held.state }
     ensures inside { StaysBy SameInside handle.old.held.state handle.new.held.state }
     ensures answers { StaysBy KeepsAnswers handle.old.held.state handle.new.held.state }
     ensures unchanged { OnErr result (handle.new.held.state ≡ handle.old.held.state) }
-    ensures is_closed { (result ≡ Err Status.Closed) ↔ (handle.old.held.state ≡ None) }
 {
     let mut resolver = handle.take(alloc)?;
     let found = resolver.give_up(query);
@@ -119,9 +119,9 @@ fn give_up(alloc: Global, handle: &mut Handle, query: u32) -> Result<(), Status>
 fn deadline(alloc: Global, handle: &mut Handle) -> Result<u64, Status>
     ensures first { IfOk result (λ second.
         IsSomeAnd handle.old.held.state (λ state. IsLeast (dues_in state) (Some second))) }
-    ensures none { OnErr result (IfSome handle.old.held.state (λ state. dues_in state ≡ [])) }
+    ensures refused { IfErr result
+        (WhyNothing (λ state. dues_in state ≡ []) handle.old.held.state) }
     ensures same { handle.new.held.state ≡ handle.old.held.state }
-    ensures is_closed { (result ≡ Err Status.Closed) ↔ (handle.old.held.state ≡ None) }
 {
     let resolver = handle.take(alloc)?;
     let second = resolver.deadline();
@@ -144,10 +144,10 @@ pub extern "C" fn wokhleas_raw_transmit(
     ensures transmitted { result ≡ pos 0 → GoesBy
         (λ old new. IsTransmitted message.new octets.new new)
         handle.old.held.state handle.new.held.state }
+    ensures refused { result ≢ pos 0
+        → IsRefused (WhyNotTransmitted ⟦<QueryIds as Ids>⟧.draws milliseconds (length octets.old)
+        handle.new.held.state) result }
     ensures unchanged { result ≢ pos 0 → message.new ≡ message.old }
-    ensures quiet { result ≡ pos nothing → IsSomeAnd handle.new.held.state
-        (AreQuiet ⟦<QueryIds as Ids>⟧.draws (milliseconds / 1000) (length octets.old)) }
-    ensures closed { result ≡ pos closed → handle.old.held.state ≡ None }
     ensures seats { StaysBy SameSeats handle.old.held.state handle.new.held.state }
     ensures inside { StaysBy SameInside handle.old.held.state handle.new.held.state }
     ensures answers { StaysBy KeepsAnswers handle.old.held.state handle.new.held.state }
@@ -179,19 +179,23 @@ pub extern "C" fn wokhleas_raw_receive(
     over: u8,
     octets: &[u8],
 ) -> i32
-    ensures closed { result ≡ pos closed → handle.old.held.state ≡ None }
     ensures received { result ≡ pos 0
         → GoesBy (IsReceived over octets.now (milliseconds / 1000))
         handle.old.held.state handle.new.held.state }
+    ensures refused { result ≢ pos 0
+        → IsRefused (WhyNotReceived over octets.now milliseconds handle.old.held.state) result }
     ensures unchanged { result ≢ pos 0 → handle.new.held.state ≡ handle.old.held.state }
     ensures inside { StaysBy SameInside handle.old.held.state handle.new.held.state }
     ensures answers { StaysBy (GainsFrom octets.now)
         handle.old.held.state handle.new.held.state }
 {
-    let (Some(at), Some(over)) = (instant_of(milliseconds), over_of(over)) else {
+    let Some(at) = instant_of(milliseconds) else {
         return Status::Argument.code();
     };
-    match receive(alloc, handle, at, over, octets) {
+    let Some(way) = over_of(over) else {
+        return Status::Argument.code();
+    };
+    match receive(alloc, handle, at, way, octets) {
         Ok(()) => DONE,
         Err(status) => status.code(),
     }
@@ -202,13 +206,13 @@ pub extern "C" fn wokhleas_raw_receive(
 pub extern "C" fn wokhleas_raw_give_up(alloc: Global, handle: &mut Handle, query: u32) -> i32
     ensures gives_up { result ≡ pos 0
         → GoesBy (GivesUpOf query) handle.old.held.state handle.new.held.state }
-    ensures none { result ≢ pos 0
-        → IfSome handle.old.held.state (λ state. IsQueryOut query state → ⊥) }
+    ensures refused { result ≢ pos 0
+        → IsRefused (WhyNothing (λ state. IsQueryOut query state → ⊥) handle.old.held.state)
+        result }
     ensures seats { StaysBy SameSeats handle.old.held.state handle.new.held.state }
     ensures unchanged { result ≢ pos 0 → handle.new.held.state ≡ handle.old.held.state }
     ensures inside { StaysBy SameInside handle.old.held.state handle.new.held.state }
     ensures answers { StaysBy KeepsAnswers handle.old.held.state handle.new.held.state }
-    ensures is_closed { (result ≡ pos closed) ↔ (handle.old.held.state ≡ None) }
 {
     match give_up(alloc, handle, query) {
         Ok(()) => DONE,
@@ -226,10 +230,10 @@ pub extern "C" fn wokhleas_raw_timeout(
 ) -> i32
     ensures left { result ≡ pos 0 → IsSomeAnd handle.old.held.state
         (λ state. IsLeft (dues_in state) milliseconds left.new) }
-    ensures none { result ≢ pos 0 → (left.new ≡ left.old)
-        × IfSome handle.old.held.state (λ state. dues_in state ≡ []) }
+    ensures refused { result ≢ pos 0
+        → IsRefused (WhyNothing (λ state. dues_in state ≡ []) handle.old.held.state) result }
+    ensures unchanged { result ≢ pos 0 → left.new ≡ left.old }
     ensures same { handle.new.held.state ≡ handle.old.held.state }
-    ensures is_closed { (result ≡ pos closed) ↔ (handle.old.held.state ≡ None) }
 {
     match deadline(alloc, handle) {
         Ok(second) => {
