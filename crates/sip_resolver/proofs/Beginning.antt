@@ -8,11 +8,12 @@ use Rattle.sip_selection.specs.Requests.{target_of}
 use Rattle.sip_selection.specs.Selections.{SelectionValue, now_of}
 use Rattle.sip_resolver.proofs.Going.{on-next, same-request}
 use Rattle.sip_resolver.specs.Outcomes.{Counts, IsOutcome}
-use Rattle.sip_resolver.specs.Readies.{Leads, WaitsBy, task_of_new}
+use Rattle.sip_resolver.specs.Readies.{Leads, WaitsBy}
+use Rattle.sip_resolver.specs.Submissions.{task_of_new}
 use Rattle.sip_resolver.specs.Tasks.{Leaves, sought_of}
 use Rattle.sip_resolver.specs.declared.outcome.Outcome.{Outcome}
 use Rattle.sip_resolver.specs.declared.outcome.Outcome.TheVariants.{Targets, Refused, NoAnswer, NoServer, BadReply, Memory}
-use Rattle.sip_resolver.specs.declared.ready.Submitted.{Submitted}
+use Rattle.sip_resolver.specs.declared.submitted.Submitted.{Submitted}
 use Rattle.sip_resolver.specs.declared.ready.Lead.{Lead}
 use Rattle.sip_resolver.specs.declared.ready.Lead.TheVariants as leads
 use Rattle.sip_resolver.specs.declared.task.Progress.TheVariants.{Asks, Ended}

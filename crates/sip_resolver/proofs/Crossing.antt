@@ -28,9 +28,10 @@ use Rattle.sip_resolver.specs.contracts.outcome.TargetList as TargetList
 use Rattle.sip_resolver.specs.contracts.question_table.QuestionTable as QuestionTable
 use Rattle.sip_resolver.specs.contracts.questions.Questions as Questions
 use Rattle.sip_resolver.specs.contracts.ready.Ready as Ready
-use Rattle.sip_resolver.specs.contracts.ready.Submitted as Submitted
 use Rattle.sip_resolver.specs.contracts.requests.Requests as Requests
 use Rattle.sip_resolver.specs.contracts.resolver.Resolver as Resolver
+use Rattle.sip_resolver.specs.contracts.submitted.Submitted as Submitted
+use Rattle.sip_resolver.specs.contracts.submitted.SubmittedWords as SubmittedWords
 use Rattle.sip_resolver.specs.contracts.task.Task as Task
 use Rattle.sip_resolver.specs.contracts.waiting_queue.WaitingQueue as WaitingQueue
 use Rattle.sip_resolver.specs.contracts.waiting_slots.Slot as Slot
@@ -125,15 +126,18 @@ list_send = search (sendable, Vec-send, target_send, host_send) depth 40
 outcome_send : IsSend (Outcome.the_field).row
 outcome_send = search (sendable, list_send, question_send) depth 40
 
+submitted_words_send : IsSend (SubmittedWords.the_field).row
+submitted_words_send = search (sendable, crosses) depth 100 fits 100000
+
 submitted_send : IsSend (Submitted.the_field).row
-submitted_send = search (sendable, request_send, caps_send) depth 40
+submitted_send = search (sendable, request_send, caps_send, submitted_words_send) depth 40
 
 module _ (B : RattleType) (b : IsSend B) where
   locator_send : IsSend (Locator.the_field B).row
   locator_send = search (sendable, crosses, selection_send) depth 40
 
   task_send : IsSend (Task.the_field B).row
-  task_send = search (sendable, crosses, locator_send, host_send) depth 100 fits 100000
+  task_send = search (sendable, crosses, locator_send, submitted_send) depth 100 fits 100000
 
   ready_send : IsSend (Ready.the_field B).row
   ready_send = search (sendable, crosses, submitted_send, task_send) depth 100 fits 100000

@@ -22,4 +22,5 @@ pub mod Driven
 pub mod IdStreams
 pub mod Draws
 pub mod Dues
+pub mod Submissions
 pub mod Readies

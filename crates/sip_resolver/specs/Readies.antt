@@ -1,27 +1,18 @@
 -- A request that can go on, and how far a step of it leads.
-use Rattle.std.specs.Prelude.{◌≡◌, ℕ, List, false}
+use Rattle.std.specs.Prelude.{◌≡◌, ℕ, List}
 use Rattle.dns_message.specs.declared.question.Question.{Question}
 use Rattle.answer_cache.specs.Seats.{SeatView}
 use Rattle.sip_selection.specs.Choice.{need}
-use Rattle.sip_selection.specs.Selections.{SelectionValue, begun, now_of}
-use Rattle.srv_choice.specs.Draws.{drawn}
+use Rattle.sip_selection.specs.Selections.{SelectionValue, now_of}
 use Rattle.sip_resolver.specs.Ends.{IsByChoice, IsMemory}
 use Rattle.sip_resolver.specs.Outcomes.{IsOutcome}
+use Rattle.sip_resolver.specs.Submissions.{task_of_new}
 use Rattle.sip_resolver.specs.Tasks.{IsCounted, Lacks, TaskView, sought_of}
-use Rattle.sip_resolver.specs.declared.ready.Submitted.{Submitted}
 use Rattle.sip_resolver.specs.declared.ready.Start.{Start}
 use Rattle.sip_resolver.specs.declared.ready.Start.TheVariants.{New, Begun}
 use Rattle.sip_resolver.specs.declared.ready.Lead.{Lead}
 use Rattle.sip_resolver.specs.declared.ready.Lead.TheVariants.{Asks, Ended}
-
--- a request that was submitted: it was given no answer
-abbrev pub task_of_new : Submitted → TaskView
-task_of_new it = record {
-  number = it.number;
-  selection = begun it.request it.caps (drawn it.key it.draw);
-  cut = false;
-  until = it.until;
-}
+use Rattle.sip_resolver.specs.declared.submitted.Submitted.{Submitted}
 
 -- a request, whether its choice has begun or not
 abbrev pub task_in : {Book : Type 0} → Start Book → TaskView

@@ -84,6 +84,7 @@ mod refusal;
 mod requests;
 mod resolver;
 mod rounding;
+mod submitted;
 mod task;
 mod transmit;
 mod waiting_queue;

@@ -5,12 +5,14 @@ ghost use Rattle.sip_selection.specs.Requests as requests;
 ghost use Rattle.sip_selection.specs.Selections.{begun};
 ghost use Rattle.srv_choice.specs.Draws.{words_of};
 ghost use Rattle.sip_resolver.specs.Expiries.{is_expired};
-ghost use Rattle.sip_resolver.specs.Readies.{EndsSo, Leads, WaitsBy, task_of_new};
+ghost use Rattle.sip_resolver.specs.Readies.{EndsSo, Leads, WaitsBy};
+ghost use Rattle.sip_resolver.specs.Submissions.{IsChoiceOf, task_of_new};
 ghost use Rattle.sip_resolver.specs.Tasks.{IsCounted};
 
 use crate::facts::Facts;
 use crate::outcome::{Outcome, TargetList};
 use crate::queue::{Numbered, Timed};
+use crate::submitted::{Submitted, SubmittedWords};
 use crate::task::{Progress, Task};
 use answer_cache::AnswerBook;
 use dns_answers::Moment;
@@ -20,17 +22,6 @@ use sip_uri::Host;
 use srv_choice::RandomWords;
 use std::alloc::{AllocError, AllocFailed, Global};
 use std::marker::Model;
-
-/// A request for which nothing was looked up yet, and by what its random words are drawn.
-#[derive(Drop)]
-pub(crate) struct Submitted {
-    number: u64,
-    request: Request,
-    caps: Caps,
-    key: [u8; 32],
-    draw: u64,
-    until: Option<Moment>,
-}
 
 /// How far a request is that can go on.
 #[derive(Drop)]
@@ -142,21 +133,17 @@ fn wait<B: AnswerBook>(
     submitted: Box<Submitted>,
     locator: BoxedLocator<B>,
 ) -> Lead<B>
-    requires { locator.request ≡ submitted.value.request }
+    requires { IsChoiceOf submitted.value locator }
     ensures { WaitsBy submitted.value locator result }
 {
-    let submitted = Box::into_inner(submitted);
-    let (number, until) = (submitted.number, submitted.until);
-    let host = host_of(submitted.request);
     match Box::new(alloc, locator.into_locator()) {
-        Ok(locator) => Lead::Asks(Task::asking(number, locator, host, until)),
+        Ok(locator) => Lead::Asks(Task::asking(submitted, locator)),
         Err(AllocFailed { .. }) => Lead::Ended(Outcome::Memory),
     }
 }
 
 impl<B: AnswerBook> Ready<B> {
-    /// A request of which nothing is known yet. Where its words are given its choice begins at
-    /// once, since they would have to be copied.
+    /// A request of which nothing is known yet.
     pub(crate) fn new(
         alloc: Global,
         number: u64,
@@ -172,25 +159,17 @@ impl<B: AnswerBook> Ready<B> {
           until = until;
         }) }
     {
-        match words {
-            RandomWords::Drawn { key, number: draw } => {
-                let submitted = Submitted {
-                    number,
-                    request,
-                    caps,
-                    key: *key,
-                    draw: *draw,
-                    until,
-                };
-                Ok(Ready {
-                    start: Start::New(Box::new(alloc, submitted)?),
-                })
-            }
-            RandomWords::Given(_) => {
-                let task = Task::new(alloc, number, request, caps, words, until)?;
-                Ok(Ready::of(task))
-            }
-        }
+        let words = SubmittedWords::of(alloc, words)?;
+        let submitted = Submitted {
+            number,
+            request,
+            caps,
+            words,
+            until,
+        };
+        Ok(Ready {
+            start: Start::New(Box::new(alloc, submitted)?),
+        })
     }
 }
 
@@ -211,10 +190,7 @@ fn begin<B: AnswerBook, F: Facts>(
     ensures ends { EndsSo result }
 {
     let it = &*submitted;
-    let words = RandomWords::Drawn {
-        key: it.key,
-        number: it.draw,
-    };
+    let words = it.words.random_words();
     let view = RequestView::Read(&it.request);
     match locate(alloc, book, seat, &view, &it.caps, &words, now) {
         Ok(Located::Targets(targets)) => {

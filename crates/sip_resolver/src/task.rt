@@ -1,29 +1,28 @@
 //! A request on its way.
-ghost use Rattle.std.specs.Prelude.{◌≡◌, ◌≢◌, true, false, Err, IfOk, MatchOption, OnErr, OnOk};
+ghost use Rattle.std.specs.Prelude.{◌≡◌, ◌≢◌, true, false, Err, MatchOption, OnErr, OnOk};
 ghost use Rattle.std.specs.Arc.{arc_value};
 ghost use Rattle.answer_cache.specs.Seats.{GoesOn, StoresNothing};
 ghost use Rattle.dns_answers.specs.Records.{kind_of};
 ghost use Rattle.dns_message.specs.declared.question.Question.{Question as question};
 ghost use Rattle.sip_selection.specs.Choice.{IsNotRefused, need};
 ghost use Rattle.sip_selection.specs.Nexts.{next_of};
-ghost use Rattle.sip_selection.specs.Requests.{target_of};
-ghost use Rattle.sip_selection.specs.Selections.{begun, given_too, now_of};
+ghost use Rattle.sip_selection.specs.Selections.{given_too, now_of};
 ghost use Rattle.sip_resolver.specs.Expiries.{is_expired};
-ghost use Rattle.srv_choice.specs.Draws.{words_of};
+ghost use Rattle.sip_resolver.specs.Submissions.{IsChoiceOf, task_of_new};
 ghost use Rattle.sip_resolver.specs.Tasks.{EndsByChoice, IsCounted, Leaves, Progresses, over_of, sought_of};
 
 use crate::facts::Facts;
 use crate::outcome::{Outcome, TargetList};
 use crate::queue::{Numbered, Timed};
+use crate::submitted::Submitted;
 use crate::transmit::DnsTransport;
 use answer_cache::AnswerBook;
 use dns_answers::{Answer, Moment};
 use dns_message::Question;
 use sip_locator::Locator;
-use sip_selection::{Caps, GiveRefusal, Next, Request};
+use sip_selection::{GiveRefusal, Next};
 use sip_uri::Host;
-use srv_choice::RandomWords;
-use std::alloc::{AllocError, AllocFailed, Global};
+use std::alloc::{AllocError, Global};
 use std::marker::Model;
 use std::sync::Arc;
 
@@ -39,31 +38,28 @@ pub(crate) enum Progress {
 /// A request on its way.
 #[derive(Drop)]
 pub(crate) struct Task<B> {
-    number: u64,
+    /// What was submitted.
+    submitted: Box<Submitted>,
+    /// Its choice.
     locator: Box<Locator<B>>,
-    /// The host that it asks for.
-    host: Host,
     /// The reply to its question was cut, which came in a datagram.
     cut: bool,
-    /// The moment by which it ends, if it has one.
-    until: Option<Moment>,
 }
 
 impl<B> Model for Task<B> {
-    ghost use Rattle.std.specs.Prelude.{◌≡◌};
-    ghost use Rattle.sip_selection.specs.Requests.{target_of};
+    ghost use Rattle.sip_resolver.specs.Submissions.{IsChoiceOf};
     ghost use Rattle.sip_resolver.specs.Tasks.{TaskView};
 
     ghost Value = { TaskView };
 
     ghost view = { λ it. record {
-      number = it.number;
+      number = it.submitted.value.number;
       selection = it.locator.value;
       cut = it.cut;
-      until = it.until;
+      until = it.submitted.value.until;
     } };
 
-    ghost invariant = { λ it. it.host ≡ target_of it.locator.value.request };
+    ghost invariant = { λ it. IsChoiceOf it.submitted.value it.locator.value };
 }
 
 impl<B> Task<B> {
@@ -71,14 +67,14 @@ impl<B> Task<B> {
     pub(crate) fn number(&self) -> u64
         ensures { result ≡ self.now.number }
     {
-        self.number
+        self.submitted.number
     }
 
     /// The moment by which it ends, if it has one.
     pub(crate) fn until(&self) -> Option<Moment>
         ensures { result ≡ self.now.until }
     {
-        self.until
+        self.submitted.until
     }
 
     /// Over what its question goes: over a stream where the reply over a datagram was cut.
@@ -96,7 +92,7 @@ impl<B> Task<B> {
     pub(crate) fn is_expired(&self, now: Moment) -> bool
         ensures { result ≡ is_expired now self.now.until }
     {
-        match self.until {
+        match self.submitted.until {
             Some(until) => until <= now,
             None => false,
         }
@@ -114,7 +110,7 @@ impl<B> Numbered for Task<B> {
     ghost numbered = { λ it. it.number };
 
     fn number(&self) -> u64 {
-        self.number
+        self.submitted.number
     }
 }
 
@@ -122,7 +118,7 @@ impl<B> Timed for Task<B> {
     ghost until_of = { λ it. it.until };
 
     fn its_until(&self) -> Option<u64> {
-        match self.until {
+        match self.submitted.until {
             Some(until) => Some(until.get()),
             None => None,
         }
@@ -130,57 +126,15 @@ impl<B> Timed for Task<B> {
 }
 
 impl<B: AnswerBook> Task<B> {
-    /// A request of which nothing is known yet.
-    pub(crate) fn new(
-        alloc: Global,
-        number: u64,
-        request: Request,
-        caps: Caps,
-        words: &RandomWords<'_>,
-        until: Option<Moment>,
-    ) -> Result<Task<B>, AllocError>
-        ensures { IfOk result (λ it. it ≡ record {
-          number = number;
-          selection = begun request caps (words_of words.now);
-          cut = false;
-          until = until;
-        }) }
-    {
-        let host = request.target().try_clone()?;
-        let locator = Locator::with_words(alloc, request, caps, words)?;
-        match Box::new(alloc, locator) {
-            Ok(locator) => Ok(Task {
-                number,
-                locator,
-                host,
-                cut: false,
-                until,
-            }),
-            Err(AllocFailed { .. }) => Err(AllocError),
-        }
-    }
-
-    /// A request that asks for an answer, by its locator, and the host that it asks for.
-    pub(crate) fn asking(
-        number: u64,
-        locator: Box<Locator<B>>,
-        host: Host,
-        until: Option<Moment>,
-    ) -> Task<B>
-        requires { host ≡ target_of locator.value.request }
-        ensures { result ≡ record {
-          number = number;
-          selection = locator.value;
-          cut = false;
-          until = until;
-        } }
+    /// A request that asks for an answer, by its locator.
+    pub(crate) fn asking(submitted: Box<Submitted>, locator: Box<Locator<B>>) -> Task<B>
+        requires { IsChoiceOf submitted.value locator.value }
+        ensures { result ≡ record (task_of_new submitted.value) { selection = locator.value } }
     {
         Task {
-            number,
+            submitted,
             locator,
-            host,
             cut: false,
-            until,
         }
     }
 
@@ -216,7 +170,7 @@ impl<B: AnswerBook> Task<B> {
     {
         let locator = &mut *self.locator;
         match locator.step(book, seat, now) {
-            Ok(next) => progress_of(alloc, next, &self.host),
+            Ok(next) => progress_of(alloc, next, self.submitted.request.target()),
             Err(AllocError) => Progress::Ended(Outcome::Memory),
         }
     }
