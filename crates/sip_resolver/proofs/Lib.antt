@@ -27,6 +27,7 @@ pub mod Dealing
 pub mod Circling
 pub mod Abandoned
 pub mod Cancelling
+pub mod Restarting
 pub mod Expiring
 pub mod InTime
 mod Working

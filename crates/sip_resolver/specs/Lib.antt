@@ -11,6 +11,7 @@ pub mod NumberFilters
 pub mod Requests
 pub mod WaitingQueues
 pub mod Cancels
+pub mod Restarts
 pub mod Expiries
 pub mod Idle
 pub mod Settles

@@ -10,7 +10,7 @@ use Rattle.sip_resolver.specs.Requests.{AreSame, weight}
 use Rattle.sip_resolver.specs.Resolvers.{IsTaken, ResolverView, with_request}
 
 -- What happens to a resolver: a request is submitted, an outcome is taken, the requests of a number
--- are cancelled, or it is polled or hears octets.
+-- are cancelled, or it is polled, hears octets or is restarted.
 pub data Event : Type 0 where
   submits : Sought → Event
   takes : Ended → Event

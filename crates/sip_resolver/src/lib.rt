@@ -41,6 +41,9 @@
 //!
 //! `cancel` takes a request out that is no longer wanted, by its number: no outcome comes of it.
 //!
+//! `restart` lets all requests begin their choices anew, so that they may go on at another book:
+//! `specs/Restarts.antt` says what is left.
+//!
 //! Where the caller can ask over streams (`Limits`), the question of a reply that was cut goes on
 //! over one: `poll_transmit` says over what it goes, and the caller says over what octets came.
 //!
@@ -83,6 +86,7 @@ mod ready;
 mod refusal;
 mod requests;
 mod resolver;
+mod restarts;
 mod rounding;
 mod submitted;
 mod task;

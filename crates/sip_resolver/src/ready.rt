@@ -6,6 +6,7 @@ ghost use Rattle.sip_selection.specs.Selections.{begun};
 ghost use Rattle.srv_choice.specs.Draws.{words_of};
 ghost use Rattle.sip_resolver.specs.Expiries.{is_expired};
 ghost use Rattle.sip_resolver.specs.Readies.{EndsSo, Leads, WaitsBy};
+ghost use Rattle.sip_resolver.specs.Restarts.{anew};
 ghost use Rattle.sip_resolver.specs.Submissions.{IsChoiceOf, task_of_new};
 ghost use Rattle.sip_resolver.specs.Tasks.{IsCounted};
 
@@ -170,6 +171,19 @@ impl<B: AnswerBook> Ready<B> {
         Ok(Ready {
             start: Start::New(Box::new(alloc, submitted)?),
         })
+    }
+
+    /// The same request, of which nothing is known. Takes no memory.
+    pub(crate) fn begin_anew(self) -> Ready<B>
+        ensures { result ≡ anew self }
+    {
+        let submitted = match self.start {
+            Start::New(submitted) => submitted,
+            Start::Begun(task) => task.into_submitted(),
+        };
+        Ready {
+            start: Start::New(submitted),
+        }
     }
 }
 

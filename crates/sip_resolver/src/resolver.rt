@@ -17,6 +17,7 @@ ghost use Rattle.sip_resolver.specs.Idle.{AreAwaited, CannotAsk, IsIdle, IsOut};
 ghost use Rattle.sip_resolver.specs.Outcomes.{IsOutcome, Sought};
 ghost use Rattle.sip_resolver.specs.Questions.{IsLeast, asking_over, count_out, schedule_of};
 ghost use Rattle.sip_resolver.specs.Requests.{AreSame, IsAwaitedBy, IsBack, Stand, count_of, numbers_of, weight};
+ghost use Rattle.sip_resolver.specs.Restarts.{restarted};
 ghost use Rattle.sip_resolver.specs.Resolvers.{Closes, Expires, GivesUpOn, HandsIn, HasRoomFor, Hears, IsCut, IsEnded, IsTaken, LeavesSeat, Polls, RefusesSubmit, begun_of, with_request};
 ghost use Rattle.sip_resolver.specs.Sends.{GivesUpBoth, IsInTime, SendsAfter, SendsFirst, tickets_of};
 ghost use Rattle.sip_resolver.specs.Settles.{GetsAnswer, GoesByReply, SettlesAll};
@@ -34,6 +35,7 @@ use crate::queue::least_of;
 use crate::ready::{Lead, Ready};
 use crate::refusal::SubmitRefusal;
 use crate::requests::Requests;
+use crate::restarts::restart_all;
 use crate::transmit::{DnsTransport, Transmit};
 use crate::waits::{WaitEnd, settle_all};
 use answer_cache::{AnswerBook, Stores};
@@ -338,6 +340,32 @@ impl<B: AnswerBook, F: Facts, I: Ids + Drop> Resolver<B, F, I> {
         remove_waiting(&mut self.requests, &mut self.questions, number);
         remove_not_waiting(&mut self.requests, number);
         true
+    }
+
+    /// Lets each request that has not ended begin its choice anew. It has used no answer then, so
+    /// its next step may look up in another book, or in another history of one. Takes no memory.
+    ///
+    /// To go on at another seat take all outcomes first (`poll_outcome` until it gives none), and
+    /// then call this: what is left inside stands at any seat. So a resolver over a `RollingCache`
+    /// need not be drained where `catch_up` says `Moved` or `Renewed`: take all outcomes, then call
+    /// `catch_up`, then this.
+    ///
+    /// The questions that are out stay out. A request that needs the answer to one waits for it
+    /// again by the next `poll_transmit`. A reply that comes before that is handed to the book, as
+    /// any is, and the request looks there. A question that no request waits for is sent as often
+    /// as the schedule says. A request whose question was to go over a stream asks it in a datagram
+    /// first.
+    pub fn restart(&mut self)
+        ensures restarts { self.new
+            ≡ record self.old { requests = restarted self.old.requests } }
+        ensures anywhere { self.old.requests.ended ≡ []
+            → (seat : SeatView) → Stand F.gives F.shows seat self.new.requests }
+        ensures stand { (seat : SeatView) → Stand F.gives F.shows seat self.old.requests
+            → Stand F.gives F.shows seat self.new.requests }
+        ensures same { AreSame self.old.requests self.new.requests }
+        ensures awaited { AreAwaited self.new.requests self.new.questions }
+    {
+        restart_all(&mut self.requests);
     }
 
     /// Ends the wait for the reply to the question of this id, which no server takes: each request

@@ -8,6 +8,7 @@ ghost use Rattle.sip_selection.specs.Choice.{IsNotRefused, need};
 ghost use Rattle.sip_selection.specs.Nexts.{next_of};
 ghost use Rattle.sip_selection.specs.Selections.{given_too, now_of};
 ghost use Rattle.sip_resolver.specs.Expiries.{is_expired};
+ghost use Rattle.sip_resolver.specs.Restarts.{anew};
 ghost use Rattle.sip_resolver.specs.Submissions.{IsChoiceOf, task_of_new};
 ghost use Rattle.sip_resolver.specs.Tasks.{EndsByChoice, IsCounted, Leaves, Progresses, over_of, sought_of};
 
@@ -136,6 +137,14 @@ impl<B: AnswerBook> Task<B> {
             locator,
             cut: false,
         }
+    }
+
+    /// What was submitted, without the answers that its choice has used.
+    pub(crate) fn into_submitted(self) -> Box<Submitted>
+        ensures { task_of_new result.value ≡ anew self }
+    {
+        let Task { submitted, .. } = self;
+        submitted
     }
 
     /// The question that it needs the answer to.
