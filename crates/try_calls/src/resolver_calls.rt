@@ -1,5 +1,5 @@
 //! What a resolver is called with, one call at a time.
-ghost use Rattle.std.specs.Prelude.{ℕ, List};
+ghost use Rattle.std.specs.Prelude.{ℕ, IsTrue, List};
 ghost use Rattle.answer_cache.specs.Seats.{SeatView};
 ghost use Rattle.sip_resolver.specs.Requests.{Stand};
 
@@ -151,6 +151,37 @@ pub(crate) fn close<B: AnswerBook, F: Facts>(
         → Stand F.gives F.shows seat resolver.new.requests }
 {
     push_yes(output, resolver.close(id));
+}
+
+/// Lets the requests begin their choices anew.
+pub(crate) fn restart<B: AnswerBook, F: Facts>(
+    output: &mut Output,
+    resolver: &mut Resolver<B, F, LineIds>,
+)
+    ensures { (seat : SeatView) → Stand F.gives F.shows seat resolver.old.requests
+        → Stand F.gives F.shows seat resolver.new.requests }
+{
+    resolver.restart();
+    output.push_line("restarted");
+}
+
+/// Lets the requests begin their choices anew, for another book, and gives whether all outcomes
+/// were taken before.
+pub(crate) fn leave_book<B: AnswerBook, F: Facts>(
+    output: &mut Output,
+    resolver: &mut Resolver<B, F, LineIds>,
+) -> bool
+    ensures { IsTrue result → (seat : SeatView)
+        → Stand F.gives F.shows seat resolver.new.requests }
+{
+    if let Some(ended) = resolver.poll_outcome() {
+        drop(ended);
+        output.push_line("outcomes are left");
+        return false;
+    }
+    resolver.restart();
+    output.push_line("restarted");
+    true
 }
 
 /// Writes the id of the question that the request of a number waits for.

@@ -67,6 +67,15 @@ pub(crate) struct Submitted {
     pub(crate) until: Option<Moment>,
 }
 
+/// What happens to a resolver at one book, and then at another.
+#[derive(Drop)]
+pub(crate) struct Steps {
+    /// At the first book.
+    pub(crate) here: Vec<Step>,
+    /// At the other one.
+    pub(crate) there: Vec<Step>,
+}
+
 /// What happens to a resolver.
 #[derive(Drop)]
 pub(crate) enum Step {
@@ -86,6 +95,8 @@ pub(crate) enum Step {
     Cancel(u64),
     /// No server takes the question of an id.
     Close(u16),
+    /// The requests begin their choices anew.
+    Restart,
     /// The resolver is asked which question the request of a number waits for.
     AwaitedId(u64),
     /// The resolver is asked whether a question is out under an id.
@@ -274,6 +285,7 @@ fn hear_step(alloc: Global, rest: &str) -> Result<Step, Fault> {
 fn plain_step(word: &str) -> Result<Step, Fault> {
     match word {
         "outcome" => Ok(Step::PollOutcome),
+        "restart" => Ok(Step::Restart),
         "timeout" => Ok(Step::NextTimeout),
         "has_room" => Ok(Step::HasRoom),
         "is_empty" => Ok(Step::IsEmpty),
@@ -304,13 +316,20 @@ fn push_step(alloc: Global, steps: &mut Vec<Step>, line: &str) -> Result<(), Fau
     keep(steps, step_of(alloc, line)?)
 }
 
-/// The steps of lines.
-pub(crate) fn steps_of(alloc: Global, lines: &str) -> Result<Vec<Step>, Fault> {
-    let mut steps = Vec::new(alloc);
+/// The steps of lines. Those behind a line `other_book` are at the other book.
+pub(crate) fn steps_of(alloc: Global, lines: &str) -> Result<Steps, Fault> {
+    let (mut here, mut there) = (Vec::new(alloc), Vec::new(alloc));
+    let mut is_there = false;
     for line in lines.lines() {
-        push_step(alloc, &mut steps, line)?;
+        if line == "other_book" {
+            is_there = true;
+        } else if is_there {
+            push_step(alloc, &mut there, line)?;
+        } else {
+            push_step(alloc, &mut here, line)?;
+        }
     }
-    Ok(steps)
+    Ok(Steps { here, there })
 }
 
 /// The lines of the zone in a text: those behind `zone `.

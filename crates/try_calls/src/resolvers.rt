@@ -7,9 +7,10 @@ use crate::clients;
 use crate::fields::moment;
 use crate::lookups::{push_number_line, push_yes, zone_of};
 use crate::resolver_calls::{
-    cancel, close, hear, outcome, poll, poll_octets, poll_send, push_awaited, serve, submit,
+    cancel, close, hear, leave_book, outcome, poll, poll_octets, poll_send, push_awaited, restart,
+    serve, submit,
 };
-use crate::resolver_steps::{LineIds, Setting, Step, setting_of, steps_of, zone_text};
+use crate::resolver_steps::{LineIds, Setting, Step, Steps, setting_of, steps_of, zone_text};
 use crate::schedules::is_in_range;
 use answer_cache::{AnswerBook, ListCache, Stores};
 use dns_zone::Zone;
@@ -106,7 +107,7 @@ fn empty<B: AnswerBook, F: Facts>(
 }
 
 /// Plays steps to a new resolver.
-fn play_new<R: Wait>(rt: &R, output: &mut Output, setting: Setting, zone: &Zone, steps: Vec<Step>)
+fn play_new<R: Wait>(rt: &R, output: &mut Output, setting: Setting, zone: &Zone, steps: Steps)
     requires requests { (1 ≤ setting.limits.requests) × (setting.limits.requests ≤ 1024) }
     requires questions { (1 ≤ setting.limits.questions) × (setting.limits.questions ≤ 256) }
     requires sends { (1 ≤ setting.schedule.sends) × (setting.schedule.sends ≤ 15) }
@@ -122,9 +123,31 @@ fn play_new<R: Wait>(rt: &R, output: &mut Output, setting: Setting, zone: &Zone,
         output.fail(Fault::Memory);
         return;
     };
+    let Steps { here, there } = steps;
     let (book, mut seat) = ListCache::new(alloc);
-    play(rt, output, &mut resolver, &book, &mut seat, zone, steps);
+    play(rt, output, &mut resolver, &book, &mut seat, zone, here);
+    if !there.is_empty() && leave_book(output, &mut resolver) {
+        play_there(rt, output, &mut resolver, zone, there);
+    }
     drop(resolver);
+    drop(seat);
+    drop(book);
+}
+
+/// Plays steps to a resolver at a new book.
+fn play_there<F: Facts, R: Wait>(
+    rt: &R,
+    output: &mut Output,
+    resolver: &mut Resolver<ListCache, F, LineIds>,
+    zone: &Zone,
+    steps: Vec<Step>,
+)
+    requires given { (octets : List ℕ) → F.gives octets }
+    requires shown { (now : ℕ) → F.shows now }
+    requires stand { (seat : SeatView) → Stand F.gives F.shows seat resolver.old.requests }
+{
+    let (book, mut seat) = ListCache::new(output.alloc());
+    play(rt, output, resolver, &book, &mut seat, zone, steps);
     drop(seat);
     drop(book);
 }
@@ -177,6 +200,7 @@ fn does<B: Stores<R>, F: Facts, R>(
         Step::Serve(now) => serve(rt, output, resolver, book, seat, zone, now),
         Step::Cancel(number) => cancel(output, resolver, number),
         Step::Close(id) => close(output, resolver, id),
+        Step::Restart => restart(output, resolver),
         Step::AwaitedId(number) => push_awaited(output, resolver, number),
         Step::IsOut(id) => push_yes(output, resolver.is_out(id)),
         Step::PollOutcome => outcome(output, resolver),

@@ -11,3 +11,6 @@ returns-in-Cancel-clause-stand g c = c.cancel.ensures (g.B.AnswerBook.shown c.ar
 
 pub returns-in-Close-clause-stand : goal.returns-in-Close-clause-stand
 returns-in-Close-clause-stand g c = c.close.ensures (g.B.AnswerBook.shown c.args.seat.now) c.requires.stand
+
+pub returns-in-Restart-clause-stand : goal.returns-in-Restart-clause-stand
+returns-in-Restart-clause-stand g c = c.restart.ensures (g.B.AnswerBook.shown c.args.seat.now) c.requires.stand
