@@ -11,7 +11,7 @@
 ghost use Rattle.std.specs.List.{All};
 ghost use Rattle.answer_cache.specs.Shared.{Belongs};
 
-mod jobs;
+pub(crate) mod jobs;
 mod rolling;
 mod zone_text;
 

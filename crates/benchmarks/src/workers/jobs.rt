@@ -8,7 +8,7 @@ use srv_choice::{WORD_COUNT, Words};
 use std::alloc::Global;
 
 /// A request to the domain of this number.
-fn request_of(alloc: Global, domain: u64) -> Option<Request> {
+pub fn request_of(alloc: Global, domain: u64) -> Option<Request> {
     let text = format!(in alloc; "sip:user@d{domain}.example").ok()?;
     match read_uri(alloc, text.as_str()) {
         Ok(uri) => Some(Request::Uri(uri)),
