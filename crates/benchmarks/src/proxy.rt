@@ -8,7 +8,7 @@
 //! requests. One reply of eight comes a second late, so that requests are inside as generations
 //! change.
 ghost use Rattle.std.specs.List.{All};
-ghost use Rattle.rolling_cache.specs.Rolling.{IsAt, IsFirst};
+ghost use Rattle.rolling_cache.specs.Rolling.{IsFirst};
 
 mod asked;
 mod counted;

@@ -2,7 +2,7 @@
 ghost use Rattle.std.specs.Prelude.{◌≡◌, ⊤, [], IfSome, IsTrue};
 ghost use Rattle.std.specs.Bool.{OnFalse};
 ghost use Rattle.answer_cache.specs.Seats.{SeatView};
-ghost use Rattle.rolling_cache.specs.Rolling.{IsAt};
+ghost use Rattle.rolling_cache.specs.Rolling.{IsAt, IsFirst};
 ghost use Rattle.sip_resolver.specs.Requests.{Stand};
 
 use crate::proxy::counted::Counted;
@@ -302,7 +302,7 @@ impl Model for Desk {
 impl Desk {
     /// The desk of the thread of this number.
     pub fn new(alloc: Global, number: u64, seat: RollingSeat) -> Option<Desk>
-        requires { IsAt seat }
+        requires { IsFirst seat }
     {
         let notes = Notes::new(alloc, number)?;
         match empty(alloc) {
