@@ -4,6 +4,7 @@ mod Runs
 mod SmallRuns
 mod ShortRuns
 mod Finding
+mod PlainRuns
 mod Pieces
 mod Leads
 mod Offsets

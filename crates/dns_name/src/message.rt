@@ -4,7 +4,7 @@ ghost use Rattle.dns_name.specs.Labels.{small_letters, wire_of, IsName};
 ghost use Rattle.dns_name.specs.Pieces.{PieceAt, NothingAt};
 ghost use Rattle.dns_name.specs.Offsets.{NameAt};
 ghost use Rattle.dns_name.specs.Octets.{IsPadded};
-ghost use Rattle.dns_name.specs.ShortNames.{ShortNameAt};
+ghost use Rattle.dns_name.specs.ShortNames.{AreLabels, ShortNameAt};
 ghost use Rattle.dns_name.specs.Landings.{AreLandings};
 
 use crate::builder::NAME_LIMIT;
@@ -192,6 +192,71 @@ fn put_small(octets: &mut [u8; INLINE_LIMIT], passed: usize, run: &[u8])
     write_small(&mut octets[passed..passed + run.len()], run);
 }
 
+/// The offset behind the labels from an offset on, of which the last ends at `last` or before.
+fn behind_labels(bytes: &[u8], offset: usize, last: usize) -> usize
+    requires { last ≤ length bytes.now }
+    ensures labels { AreLabels bytes.now offset result }
+    ensures forward { offset ≤ result }
+    ensures within { offset ≤ last → result ≤ last }
+{
+    let mut end = offset;
+    while let Some(length) = bytes.get(end) {
+        let length = usize::from(*length);
+        if length == 0 || length > 63 || end + 1 + length > last {
+            return end;
+        }
+        end += 1 + length;
+    }
+    end
+}
+
+/// Reads the run of labels at an offset over zeros, and gives how many octets it has, if these are
+/// at most 31, and the run closes with a 0 before a limit.
+#[inline(always)]
+fn read_plain_run(
+    bytes: &[u8],
+    start: usize,
+    limit: usize,
+    octets: &mut [u8; INLINE_LIMIT],
+) -> Option<usize>
+    requires limit { limit ≤ length bytes.now }
+    requires zeros { IsPadded octets.old 0 }
+    ensures name { IfSome result
+        (λ count. ShortNameAt bytes.now start octets.new count (start + count)) }
+    ensures within { IfSome result (λ count. start + count ≤ limit) }
+{
+    if start >= limit {
+        return None;
+    }
+    let end = behind_labels(bytes, start, limit.min(start + (INLINE_LIMIT - 1)));
+    if end == limit || bytes[end] != 0 {
+        return None;
+    }
+    put_small(octets, 0, &bytes[start..end + 1]);
+    Some(end + 1 - start)
+}
+
+/// Reads the name at offset `at` of a message over zeros, if it has at most 31 octets and is one
+/// run of labels, or a pointer to one: most names are.
+fn read_plain(bytes: &[u8], at: usize, octets: &mut [u8; INLINE_LIMIT]) -> Option<ShortName>
+    requires { IsPadded octets.old 0 }
+    ensures { IfSome result
+        (λ short. ShortNameAt bytes.now at octets.new short.length short.after) }
+{
+    if let Some(Piece::Pointer(target)) = piece_at(bytes, at) {
+        let length = read_plain_run(bytes, target, at, octets)?;
+        return Some(ShortName {
+            length,
+            after: at + 2,
+        });
+    }
+    let length = read_plain_run(bytes, at, bytes.len(), octets)?;
+    Some(ShortName {
+        length,
+        after: at + length,
+    })
+}
+
 /// Reads the name at offset `at` of a message over zeros, if one of at most 31 octets is there.
 fn read_short(
     bytes: &[u8],
@@ -257,6 +322,11 @@ fn read_short_over(
     ensures none { result ≡ None → octets.new ≡ wire_of [] }
 {
     octets.heap = Vec::new(alloc);
+    octets.inline = [0; INLINE_LIMIT];
+    if let Some(short) = read_plain(bytes, at, &mut octets.inline) {
+        octets.length = short.length as u8;
+        return Some(short.after);
+    }
     octets.inline = [0; INLINE_LIMIT];
     match read_short(bytes, landings, at, &mut octets.inline) {
         Some(short) => {

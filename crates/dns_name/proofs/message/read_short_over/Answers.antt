@@ -7,3 +7,6 @@ read_short-requires-clause-zeros c = IsPadded-zeros _ refl refl
 
 pub invariant_of-octets-in-None : goal.invariant_of-octets-in-None
 invariant_of-octets-in-None c = IsPadded-one _ refl refl
+
+pub read_plain-requires : goal.read_plain-requires
+read_plain-requires c = IsPadded-zeros _ refl refl
