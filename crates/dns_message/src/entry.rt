@@ -79,15 +79,18 @@ fn settle(alloc: Global, bytes: &[u8], landings: &mut Landings)
 /// How many are read before room is made for more at once.
 const FIRST_ROOM: usize = 4;
 
-/// Makes room for three times as many as were read first, or for all that are still to come where
-/// these are fewer. Where there is no memory for that, each one asks for its own.
+/// For how many more room is made at once.
+const MORE_ROOM: usize = 28;
+
+/// Makes room for all that are still to come, or for so many where these are more. Where there is
+/// no memory for that, each one asks for its own.
 #[cold]
 #[inline(never)]
 fn make_more_room<E: Entry>(entries: &mut Vec<E>, count: u16)
     ensures { entries.new.items ≡ entries.old.items }
 {
     let to_come = usize::from(count).saturating_sub(FIRST_ROOM);
-    let _ = entries.reserve_exact(to_come.min(3 * FIRST_ROOM));
+    let _ = entries.reserve_exact(to_come.min(MORE_ROOM));
 }
 
 /// Makes room for more at once, when the first few of so many were read.

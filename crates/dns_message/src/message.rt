@@ -40,7 +40,7 @@ pub struct Message {
 /// is ignored.
 ///
 /// Memory is taken as questions and records are read, and never for a count of the header alone:
-/// where four of a section were read, it is taken for as many as the count says, twelve at most.
+/// where four of a section were read, it is taken for as many as the count says, 28 at most.
 #[inline(always)]
 pub fn read_message(alloc: Global, bytes: &[u8]) -> Result<Message, MessageRefusal>
     // What is read stands in front of the octets.
