@@ -1,12 +1,12 @@
-//! The readers of URIs and Vias. Texts come as octets: what reads a text sees that they are UTF-8
-//! first, and what makes a view does not.
+//! The readers of URIs and Vias. Texts come as octets, so each is read by its view: `read_uri` and
+//! `read_via` take the same way, and their texts are UTF-8 by their type.
 ghost use Rattle.std.specs.Prelude.{◌≡◌, ◌<◌, IfSome, MatchOption};
 ghost use Rattle.sip_uri.specs.Uris.{UriText};
 ghost use Rattle.sip_uri.specs.Vias.{ViaText};
 ghost use Rattle.sip_uri.specs.declared.uri.SipUri as uri;
 ghost use Rattle.sip_uri.specs.declared.via.Via as via;
 
-use sip_uri::{SipUri, Via, read_uri, read_via, view_uri, view_via};
+use sip_uri::{SipUri, Via, view_uri, view_via};
 use std::alloc::Global;
 
 /// The port where none is written (RFC 3261 18.1.1 and Table 1).
@@ -16,16 +16,14 @@ const DEFAULT_PORT: u16 = 5060;
 fn uri_of(alloc: Global, octets: &[u8]) -> Option<SipUri>
     ensures { IfSome result (λ uri. UriText octets.now uri) }
 {
-    let text = str::from_utf8(octets).ok()?;
-    read_uri(alloc, text).ok()
+    view_uri(octets).ok()?.to_uri(alloc).ok()
 }
 
 /// The Via that these octets spell.
 fn via_of(alloc: Global, octets: &[u8]) -> Option<Via>
     ensures { IfSome result (λ via. ViaText octets.now via) }
 {
-    let text = str::from_utf8(octets).ok()?;
-    read_via(alloc, text).ok()
+    view_via(octets).ok()?.to_via(alloc).ok()
 }
 
 /// The port of the URI that these octets spell.

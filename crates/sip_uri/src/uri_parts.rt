@@ -1,5 +1,8 @@
 //! Views of URIs: URIs as they stand in a text (RFC 3261 19.1.1, 25.1).
-ghost use Rattle.std.specs.Prelude.{◌≡◌, IfOk, IfSome, OnOk, OnErr, Some, None, [], unwrap_or};
+//!
+//! A URI is put together where it stays, and the octets of its host's name are written there: where
+//! octets are moved that were just written one by one, they have to be waited for.
+ghost use Rattle.std.specs.Prelude.{◌≡◌, IfOk, IfSome, OnOk, OnErr, unwrap_or};
 ghost use Rattle.std.specs.Option.{option_map};
 ghost use Rattle.sip_uri.specs.Readers.Hosts as host;
 ghost use Rattle.sip_uri.specs.Readers.Uris as spec;
@@ -7,9 +10,8 @@ ghost use Rattle.sip_uri.specs.Uris.{IsNamedUri};
 ghost use Rattle.sip_uri.specs.Hosts.{DomainText, IsNamed};
 ghost use Rattle.sip_uri.specs.Views.{name_of, host_of, uri_of, IsHostView, IsUriView};
 ghost use Rattle.sip_uri.specs.Blanks.{blank_of, uri_with};
-ghost use Rattle.sip_uri.specs.declared.host.Host.TheVariants.{V4, V6, Domain};
+ghost use Rattle.sip_uri.specs.declared.host.Host.TheVariants.{Domain};
 
-use crate::address_octets::{V4Octets, V6Octets};
 use crate::headers::are_headers;
 use crate::host::Host;
 use crate::host_part::HostPart;
@@ -49,42 +51,18 @@ impl<'a> UriParts<'a> {
         self.maddr.unwrap_or(self.host)
     }
 
-    /// The URI with these hosts.
+    /// The URI with this parameter `maddr`, where the name of its host is still that of the root.
     #[inline(always)]
-    pub(crate) fn with_hosts(self, host: Host, maddr: Option<Host>) -> SipUri
-        ensures { result ≡ uri_with self.entry host maddr }
+    fn blank_uri(self, alloc: Global, maddr: Option<Host>) -> SipUri
+        ensures { result ≡ uri_with self.entry (blank_of self.entry.host) maddr }
     {
         SipUri {
             secure: self.secure,
-            host,
+            host: blank_host(alloc, self.host),
             port: self.port,
             transport: self.transport,
             maddr,
         }
-    }
-
-    /// The URI with this IPv4 address for its host, and without `maddr`.
-    #[inline(always)]
-    pub(crate) fn with_v4(self, address: V4Octets) -> SipUri
-        ensures { result ≡ uri_with self.entry (V4 address.octets) None }
-    {
-        self.with_hosts(Host::V4(address.octets), None)
-    }
-
-    /// The URI with this IPv6 address for its host, and without `maddr`.
-    #[inline(always)]
-    pub(crate) fn with_v6(self, address: V6Octets) -> SipUri
-        ensures { result ≡ uri_with self.entry (V6 address.octets) None }
-    {
-        self.with_hosts(Host::V6(address.octets), None)
-    }
-
-    /// The URI with the root for its host, and without `maddr`.
-    #[inline(always)]
-    pub(crate) fn with_root(self, alloc: Global) -> SipUri
-        ensures { result ≡ uri_with self.entry (Domain []) None }
-    {
-        self.with_hosts(Host::Domain(Name::root(alloc)), None)
     }
 
     /// The URI, with memory for the names of its hosts.
@@ -96,18 +74,19 @@ impl<'a> UriParts<'a> {
         // Memory is needed for names alone.
         ensures memory { OnErr result (IsNamedUri (uri_of self.entry)) }
     {
-        let host = self.host.to_host(alloc)?;
         let maddr = match self.maddr {
             None => None,
             Some(maddr) => Some(maddr.to_host(alloc)?),
         };
-        Ok(self.with_hosts(host, maddr))
+        let mut uri = self.blank_uri(alloc, maddr);
+        fill_host(&mut uri.host, self.host)?;
+        Ok(uri)
     }
 }
 
 /// The host of a view, where the name of a hostname is still that of the root.
 #[inline(always)]
-pub(crate) fn blank_host(alloc: Global, part: HostPart<'_>) -> Host
+fn blank_host(alloc: Global, part: HostPart<'_>) -> Host
     ensures { result ≡ blank_of part.entry }
 {
     match part {
@@ -119,7 +98,7 @@ pub(crate) fn blank_host(alloc: Global, part: HostPart<'_>) -> Host
 
 /// Makes the name of a host that of a hostname.
 #[inline(always)]
-pub(crate) fn name_host(host: &mut Host, hostname: &[u8]) -> Result<(), AllocError>
+fn name_host(host: &mut Host, hostname: &[u8]) -> Result<(), AllocError>
     requires named { IsNamed host.old }
     requires text { DomainText hostname.now (name_of hostname.now) }
     ensures { OnOk result (host.new ≡ Domain (name_of hostname.now)) }
@@ -132,7 +111,7 @@ pub(crate) fn name_host(host: &mut Host, hostname: &[u8]) -> Result<(), AllocErr
 
 /// Makes a blank host the one of its view.
 #[inline(always)]
-pub(crate) fn fill_host(host: &mut Host, part: HostPart<'_>) -> Result<(), AllocError>
+fn fill_host(host: &mut Host, part: HostPart<'_>) -> Result<(), AllocError>
     requires blank { host.old ≡ blank_of part }
     requires view { IsHostView part }
     ensures host { OnOk result (host.new ≡ host_of part.entry) }
@@ -141,20 +120,6 @@ pub(crate) fn fill_host(host: &mut Host, part: HostPart<'_>) -> Result<(), Alloc
     match part {
         HostPart::Domain(hostname) => name_host(host, hostname),
         _ => Ok(()),
-    }
-}
-
-/// Makes a blank host, where there is one, the one of its view.
-#[inline(always)]
-pub(crate) fn fill_maddr(maddr: &mut Option<Host>, part: HostPart<'_>) -> Result<(), AllocError>
-    requires blank { maddr.old ≡ Some (blank_of part) }
-    requires view { IsHostView part }
-    ensures host { OnOk result (maddr.new ≡ Some (host_of part.entry)) }
-    ensures memory { OnErr result (IsNamed (host_of part.entry)) }
-{
-    match maddr {
-        Some(host) => fill_host(host, part),
-        None => Ok(()),
     }
 }
 

@@ -1,17 +1,12 @@
 //! The reader of URIs (RFC 3261 19.1.1, 25.1).
-//!
-//! A URI that is read is put together where it stays, and the octets of its names are written
-//! there: octets that were just written one by one have to be waited for where they are moved. Each
-//! way out of `read_uri` hands on its URI by itself, so that it is moved once.
-ghost use Rattle.std.specs.Prelude.{◌≡◌, ◌↔◌, ◌<◌, ◌≤◌, length, IfOk, IfErr, IsOkAnd, MatchResult, Err, Some};
+ghost use Rattle.std.specs.Prelude.{◌≡◌, ◌↔◌, ◌<◌, ◌≤◌, length, IfOk, IsOkAnd, MatchResult, Err};
 ghost use Rattle.sip_uri.specs.Uris.{UriText, HasScheme, IsNamedUri};
 ghost use Rattle.sip_uri.specs.Views.{uri_of, IsUriView};
 ghost use Rattle.sip_uri.specs.declared.uri.SipUri.{SipUri};
 
-use crate::host_part::HostPart;
 use crate::refusal::UriRefusal;
 use crate::uri::SipUri;
-use crate::uri_parts::{UriParts, blank_host, fill_host, fill_maddr, name_host, uri_parts};
+use crate::uri_parts::{UriParts, uri_parts};
 use std::alloc::Global;
 
 /// The most octets of a text that is read.
@@ -44,27 +39,6 @@ pub fn view_uri(octets: &[u8]) -> Result<UriParts<'_>, UriRefusal>
     uri_parts(octets)
 }
 
-/// The URI that a view with `maddr` means, with memory for the names of its hosts.
-#[inline(always)]
-fn read_hosts(alloc: Global, parts: UriParts<'_>, maddr: HostPart<'_>) -> Result<SipUri, UriRefusal>
-    requires view { IsUriView parts }
-    requires maddr { parts.maddr ≡ Some maddr }
-    ensures uri { IfOk result (λ uri. uri ≡ uri_of parts.entry) }
-    ensures memory { IfErr result
-        (λ refusal. (refusal ≡ UriRefusal.Memory) × IsNamedUri (uri_of parts.entry)) }
-{
-    let blank = Some(blank_host(alloc, maddr));
-    let mut uri = parts.with_hosts(blank_host(alloc, parts.host), blank);
-    match fill_host(&mut uri.host, parts.host) {
-        Ok(_) => {}
-        Err(_) => return Err(UriRefusal::Memory),
-    }
-    match fill_maddr(&mut uri.maddr, maddr) {
-        Ok(_) => Ok(uri),
-        Err(_) => Err(UriRefusal::Memory),
-    }
-}
-
 /// The URI that a text spells, or its first fault from the left: the scheme, the user, the host,
 /// the port, each parameter, each header. A text of more than 1,024 octets is refused before all
 /// else. Memory is taken for the names of hosts alone, after all else is checked.
@@ -86,19 +60,8 @@ pub fn read_uri(alloc: Global, text: &str) -> Result<SipUri, UriRefusal>
         ↔ (length text.now ≤ 1024) × (HasScheme text.now → ⊥) }
 {
     let parts = view_uri(text.as_bytes())?;
-    if let Some(maddr) = parts.maddr {
-        return read_hosts(alloc, parts, maddr);
-    }
-    // each arm returns by itself: where they join, the URI is moved once more
-    match parts.host {
-        HostPart::V4(address) => return Ok(parts.with_v4(address)),
-        HostPart::V6(address) => return Ok(parts.with_v6(address)),
-        HostPart::Domain(hostname) => {
-            let mut uri = parts.with_root(alloc);
-            match name_host(&mut uri.host, hostname) {
-                Ok(_) => return Ok(uri),
-                Err(_) => return Err(UriRefusal::Memory),
-            }
-        }
+    match parts.to_uri(alloc) {
+        Ok(uri) => Ok(uri),
+        Err(_) => Err(UriRefusal::Memory),
     }
 }
