@@ -138,3 +138,5 @@ impl Drop for Tallies {
 }
 
 unsafe impl Send for Tally {}
+
+unsafe impl Sync for Tally {}
