@@ -8,14 +8,15 @@ use Rattle.boxcar.proofs.slot.OnceSlot.TheSendSync as slot
 use Rattle.boxcar.proofs.slot.Written.TheSendSync as written
 use Rattle.boxcar.proofs.tag.Tag.TheSendSync as tag
 use Rattle.answer_log.proofs.tally.Tally.TheSendSync as tally
-use Rattle.answer_log.proofs.spent.Spent.TheLaws.TheKnot.{send-Spent}
-use Rattle.answer_cache.proofs.notes.Notes.TheLaws.TheKnot.{send-Notes}
+use Rattle.counted_slot.proofs.Counted.TheSendSync as counted
+use Rattle.answer_log.proofs.spent.Spent.TheLaws.TheKnot.{send-Spent, sync-Spent}
+use Rattle.answer_cache.proofs.notes.Notes.TheLaws.TheKnot.{send-Notes, sync-Notes}
 use Rattle.dns_name.specs.contracts.name.Name as Name
 use Rattle.answer_cache.specs.contracts.seat.Seat as Seat
 use Rattle.answer_cache.specs.contracts.shared_cache.SharedCache as SharedCache
 use Rattle.rolling_cache.proofs.lineage.Lineage.TheLaws.TheKnot.{send-Lineage, sync-Lineage}
 use Rattle.rolling_cache.specs.contracts.generation.Generation as Generation
-use Rattle.rolling_cache.specs.contracts.generation.Present as Present
+use Rattle.rolling_cache.specs.contracts.present.Present as Present
 use Rattle.rolling_cache.specs.contracts.rolling.RollingCache as RollingCache
 
 name_send : IsSend Name.the_row
@@ -50,6 +51,9 @@ cache_sync = search parts depth 100 fits 100000
 seat_send : IsSend Seat.the_row
 seat_send = search (parts, tally.the_send, send-Spent, send-Notes) depth 100 fits 100000
 
+seat_sync : IsSync Seat.the_row
+seat_sync = search (parts, tally.the_sync, sync-Spent, sync-Notes) depth 100 fits 100000
+
 generation_send : IsSend Generation.the_row
 generation_send = search (sendable, crosses, cache_send, send-Lineage) depth 100 fits 100000
 
@@ -59,5 +63,8 @@ generation_sync = search (sendable, crosses, cache_sync, sync-Lineage) depth 100
 present_send : IsSend Present.the_row
 present_send = search (sendable, crosses, generation_send, generation_sync, seat_send) depth 100 fits 100000
 
+present_sync : IsSync Present.the_row
+present_sync = search (sendable, crosses, generation_send, generation_sync, seat_sync) depth 100 fits 100000
+
 pub rolling_sync : IsSync RollingCache.the_row
-rolling_sync = search (sendable, crosses, present_send) depth 20
+rolling_sync = search (sendable, crosses, counted.the_sync, present_send, present_sync) depth 20

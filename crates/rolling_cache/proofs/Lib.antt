@@ -1,3 +1,4 @@
 pub mod Crossing
 mod Handing
+mod Late
 mod Opening

@@ -1,6 +1,7 @@
 -- A generation that begins.
-use Rattle.std.proofs.Common.{◌≡◌, ◌<◌, ℕ, List, [], ◌∷◌, ◌++◌, length, map, refl, ap, sym, subst, ◌∙◌}
-use Rattle.std.proofs.lemmas.List.{append-nil}
+use Rattle.std.proofs.Common.{◌≡◌, ◌+◌, ℕ, zero, suc, List, [], ◌∷◌, ◌++◌, length, map, refl, ap, sym, subst, ◌∙◌, arith}
+use Rattle.std.proofs.lemmas.List.{append-nil, length-append, length-map}
+use Rattle.std.proofs.lemmas.List.FromFn.{length-range_with_len}
 use Rattle.std.proofs.lemmas.List.Elements.{All-cons, All-head, All-map, All-nil, All-push, All-tail}
 use Rattle.std.specs.List.{All, range_with_len}
 use mathlib.Core.List.{IsPrefix}
@@ -9,8 +10,8 @@ use Rattle.answer_cache.proofs.Placing.{prefix-trans}
 use Rattle.answer_cache.specs.Carried.{CarriedView, IsCarried, carried_stores, seat_after}
 use Rattle.answer_cache.specs.Seats.{SeatView}
 use Rattle.answer_cache.specs.Shared.{Belongs, CacheView, SharedView, NoticeView, new_seat}
-use Rattle.rolling_cache.specs.Eras.{Descends, Era, HandsOn, begun_with, era_of}
-use Rattle.rolling_cache.specs.Rolling.{GenerationView, HandsOver, IsFresh, IsFreshAt, RollingView, generation_of, rolling_of}
+use Rattle.rolling_cache.specs.Eras.{Descends, Era, begun_with, era_of}
+use Rattle.rolling_cache.specs.Rolling.{AreLeft, GenerationView, HandsOver, IsFresh, IsFreshAt, RollingView, generation_of, rolling_of}
 
 all-under : {X Y : Type 0} (P : Y → Type 0) (f : X → Y) (xs : List X) → All P (map f xs) → All (λ x. P (f x)) xs
 all-under P f [] all = All-nil (λ x. P (f x))
@@ -27,7 +28,7 @@ fresh cache past seat here seen offered = record {
 }
 
 -- the seats of a new cache are fresh in the first generation
-pub fresh-first : (cache : CacheView) (seats : ℕ) (past : List Era) (items : List SharedView)
+fresh-first : (cache : CacheView) (seats : ℕ) (past : List Era) (items : List SharedView)
     → past ≡ [] → All (Belongs cache) items → items ≡ map (new_seat cache) (range_with_len 0 seats)
     → All (λ seat. IsFresh (rolling_of (generation_of cache past) seat)) items
 fresh-first cache seats past items none belong are =
@@ -42,7 +43,7 @@ fresh-first cache seats past items none belong are =
         (λ k d low. (refl, refl)))
 
 -- those of a successor are fresh in the next one
-pub fresh-next : (cache : CacheView) (seats : ℕ) (told : NoticeView) (carried : CarriedView) (older past : List Era)
+fresh-next : (cache : CacheView) (seats : ℕ) (told : NoticeView) (carried : CarriedView) (older past : List Era)
     (items : List SharedView) → past ≡ era_of told carried ∷ older → All (Belongs cache) items
     → map (λ seat. seat.seat) items ≡ map (seat_after carried) (range_with_len 0 seats)
     → All (λ seat. IsFresh (rolling_of (generation_of cache past) seat)) items
@@ -105,3 +106,107 @@ one-more generation made more seat is all fresh here =
 pub all-last : {X : Type 0} (P : X → Type 0) (xs : List X) (x : X) → All P (xs ++ x ∷ []) → P x
 all-last P [] x all = All-head P x [] all
 all-last P (y ∷ xs) x all = all-last P xs x (All-tail P y (xs ++ x ∷ []) all)
+
+-- numbers of what is made of the numbers from one on
+numbers-of : {X : Type 0} (f : X → ℕ) (g : ℕ → X) → ((n : ℕ) → f (g n) ≡ n) → (a size : ℕ)
+    → map f (map g (range_with_len a size)) ≡ range_with_len a size
+numbers-of f g same a zero = refl
+numbers-of f g same a (suc size) = λ i. same a i ∷ numbers-of f g same (a + 1) size i
+
+numbers-left : {X : Type 0} (f : X → ℕ) (g : ℕ → X) → ((n : ℕ) → f (g n) ≡ n) → (seats : ℕ) (items : List X)
+    → map f items ≡ map f (map g (range_with_len 0 seats)) → map f items ≡ range_with_len 0 (length items)
+numbers-left f g same seats items are =
+    let are-all : map f items ≡ range_with_len 0 seats = are ∙ numbers-of f g same 0 seats in
+    let size : length items ≡ seats =
+    sym (length-map items f) ∙ (ap (λ l. length l) are-all ∙ length-range_with_len 0 seats) in
+    are-all ∙ ap (λ n. range_with_len 0 n) (sym size)
+
+-- the seats of a new cache are left in the first generation
+pub left-first : (cache : CacheView) (seats : ℕ) (past : List Era) (items : List SharedView)
+    → past ≡ [] → All (Belongs cache) items → items ≡ map (new_seat cache) (range_with_len 0 seats)
+    → AreLeft (generation_of cache past) items
+left-first cache seats past items none belong are = record {
+  fresh = fresh-first cache seats past items none belong are;
+  numbers = numbers-left (λ seat. seat.seat.number) (new_seat cache) (λ n. refl) seats items (ap (map (λ seat. seat.seat.number)) are);
+}
+
+maps-through : {X Y Z : Type 0} (f : X → Y) (g : Y → Z) (xs : List X) → map (λ x. g (f x)) xs ≡ map g (map f xs)
+maps-through f g [] = refl
+maps-through f g (x ∷ xs) = ap (λ l. g (f x) ∷ l) (maps-through f g xs)
+
+-- those of a successor are left in the next one
+pub left-next : (cache : CacheView) (seats : ℕ) (told : NoticeView) (carried : CarriedView) (older past : List Era)
+    (items : List SharedView) → past ≡ era_of told carried ∷ older → All (Belongs cache) items
+    → map (λ seat. seat.seat) items ≡ map (seat_after carried) (range_with_len 0 seats)
+    → AreLeft (generation_of cache past) items
+left-next cache seats told carried older past items is belong are = record {
+  fresh = fresh-next cache seats told carried older past items is belong are;
+  numbers = by-seats;
+}
+  where
+    number : SeatView → ℕ
+    number seat = seat.number
+
+    seats-of : List SeatView
+    seats-of = map (λ (seat : SharedView). seat.seat) items
+
+    by-seats : map (λ (seat : SharedView). seat.seat.number) items ≡ range_with_len 0 (length items)
+    by-seats =
+        maps-through (λ (seat : SharedView). seat.seat) number items
+        ∙ (numbers-left number (seat_after carried) (λ n. refl) seats seats-of (ap (map number) are)
+        ∙ ap (λ n. range_with_len 0 n) (length-map items (λ (seat : SharedView). seat.seat)))
+
+range-next : (from size : ℕ) → range_with_len from (suc size) ≡ range_with_len from size ++ (from + size) ∷ []
+range-next from zero = ap (λ n. n ∷ []) (omega arith)
+range-next from (suc size) =
+    let same : (from + 1) + size ≡ from + suc size = omega arith in
+    ap (λ rest. from ∷ rest) (range-next (from + 1) size ∙ ap (λ n. range_with_len (from + 1) size ++ n ∷ []) same)
+
+-- where a list with one more is the numbers from 0 on, so is the list, and the one is its length
+snoc-parts : (xs ys : List ℕ) (x y : ℕ) → xs ++ x ∷ [] ≡ ys ++ y ∷ [] → (xs ≡ ys) × (x ≡ y)
+snoc-parts [] [] x y is = (refl, cc (is))
+snoc-parts [] (b ∷ []) x y is = absurd (cc (is))
+snoc-parts [] (b ∷ c ∷ ys) x y is = absurd (cc (is))
+snoc-parts (a ∷ []) [] x y is = absurd (cc (is))
+snoc-parts (a ∷ c ∷ xs) [] x y is = absurd (cc (is))
+snoc-parts (a ∷ xs) (b ∷ ys) x y is =
+    let head : a ≡ b = cc (is) in
+    let tail : xs ++ x ∷ [] ≡ ys ++ y ∷ [] = cc (is) in
+    let rest = snoc-parts xs ys x y tail in
+    ((λ i. head i ∷ rest.0 i), rest.1)
+
+map-snoc : (f : SharedView → ℕ) (xs : List SharedView) (x : SharedView) → map f (xs ++ x ∷ []) ≡ map f xs ++ f x ∷ []
+map-snoc f [] x = refl
+map-snoc f (y ∷ xs) x = ap (λ l. f y ∷ l) (map-snoc f xs x)
+
+abbrev number-of : SharedView → ℕ
+number-of = λ (seat : SharedView). seat.seat.number
+
+numbers-last : (xs : List SharedView) (x : SharedView)
+    → map number-of (xs ++ x ∷ []) ≡ range_with_len 0 (length (xs ++ x ∷ []))
+    → (map number-of xs ≡ range_with_len 0 (length xs)) × (number-of x ≡ length xs)
+numbers-last xs x are =
+    let size : length (xs ++ x ∷ []) ≡ suc (length xs) = omega (arith, length-append xs (x ∷ [])) in
+    let zero-more : 0 + length xs ≡ length xs = omega arith in
+    let rest = snoc-parts (map number-of xs) (range_with_len 0 (length xs)) (number-of x) (0 + length xs)
+    (sym (map-snoc number-of xs x) ∙ (are ∙ (ap (λ n. range_with_len 0 n) size ∙ range-next 0 (length xs)))) in
+    (rest.0, rest.1 ∙ zero-more)
+
+-- what holds of all but the last one
+all-but-last : {X : Type 0} (P : X → Type 0) (xs : List X) (x : X) → All P (xs ++ x ∷ []) → All P xs
+all-but-last P [] x all = All-nil P
+all-but-last P (y ∷ xs) x all = All-cons P y xs (All-head P y (xs ++ x ∷ []) all) (all-but-last P xs x (All-tail P y (xs ++ x ∷ []) all))
+
+-- of the seats that are left, the last one is given out
+pub left-last : (generation : GenerationView) (xs more : List SharedView) (x : SharedView) → more ≡ xs ++ x ∷ [] → AreLeft generation more
+    → AreLeft generation xs × IsFresh (rolling_of generation x) × (x.seat.number ≡ length xs) × (length more ≡ length xs + 1)
+left-last generation xs more x is left =
+    let P : SharedView → Type 0 = λ seat. IsFresh (rolling_of generation seat) in
+    let A : List SharedView → Type 0 = λ seats. AreLeft generation seats in
+    let here : AreLeft generation (xs ++ x ∷ []) = subst A is left in
+    let numbers = numbers-last xs x here.numbers in (
+      record { fresh = all-but-last P xs x here.fresh; numbers = numbers.0 },
+      all-last P xs x here.fresh,
+      numbers.1,
+      ap (λ l. length l) is ∙ omega (arith, length-append xs (x ∷ [])),
+    )

@@ -1,15 +1,13 @@
-//! A generation, and the one that is present.
-ghost use Rattle.std.specs.Prelude.{◌≡◌, ◌<◌, ◌≤◌, ℕ, [], IfErr, IfOk, IfSome, OnOk};
-ghost use Rattle.std.specs.List.{All};
+//! A generation.
+ghost use Rattle.std.specs.Prelude.{◌≡◌, ◌+◌, ◌<◌, ◌≤◌, ℕ, [], IfErr, IfOk, OnOk, length};
 ghost use Rattle.answer_cache.specs.Lists.{IsGroupCount};
 ghost use Rattle.answer_cache.specs.Shared.{RefusesGroups};
 ghost use Rattle.rolling_cache.specs.Eras.{Descends};
-ghost use Rattle.rolling_cache.specs.Rolling.{Changes, HandsOver, IsAt, IsFresh, Waits};
+ghost use Rattle.rolling_cache.specs.Rolling.{AreLeft, HandsOver, IsAt, Waits};
 ghost use Rattle.rolling_cache.specs.Rolling.{generation_of, rolling_of};
 
-use crate::change::Change;
 use crate::lineage::Lineage;
-use crate::seat::RollingSeat;
+use crate::present::Present;
 use answer_cache::{CacheRefusal, Seat, SharedCache, StoreRefusal};
 use answer_log::hash;
 use dns_answers::Moment;
@@ -31,9 +29,11 @@ pub struct Generation {
     began: Moment,
     stored: Vec<AtomicU64>,
     ending: AtomicBool,
+    handing_on: AtomicBool,
 }
 
 impl Model for Generation {
+    ghost use Rattle.std.specs.Prelude.{◌≡◌, length};
     ghost use Rattle.rolling_cache.specs.Eras.{Descends};
     ghost use Rattle.rolling_cache.specs.Rolling.{GenerationView, generation_of};
 
@@ -41,7 +41,7 @@ impl Model for Generation {
 
     ghost view = { λ it. generation_of it.cache it.lineage };
 
-    ghost invariant = { λ it. Descends it.lineage };
+    ghost invariant = { λ it. Descends it.lineage × (it.number ≡ length it.lineage) };
 }
 
 /// A count of stores for each of so many groups.
@@ -54,9 +54,11 @@ fn no_counts(alloc: Global, groups: u32) -> Result<Vec<AtomicU64>, AllocError> {
 }
 
 impl Generation {
-    /// The number of the generation, from 0: generations follow one another.
+    /// The number of the generation, from 0: how many came before it.
     #[must_use]
-    pub fn number(&self) -> u64 {
+    pub fn number(&self) -> u64
+        ensures { result ≡ length self.now.past }
+    {
         self.number
     }
 
@@ -108,6 +110,34 @@ impl Generation {
         }
     }
 
+    /// A generation that begins, with all of its seats.
+    fn open(
+        alloc: Global,
+        cache: SharedCache,
+        seats: Vec<Seat>,
+        groups: u32,
+        number: u64,
+        began: Moment,
+        lineage: Lineage,
+    ) -> Result<Present, AllocError>
+        requires law_descends { Descends lineage }
+        requires number { number ≡ length lineage }
+        requires left { AreLeft (generation_of cache lineage) seats.items }
+        ensures { IfOk result (λ made. made.generation ≡ generation_of cache lineage) }
+    {
+        let generation = Generation {
+            cache,
+            number,
+            lineage,
+            began,
+            stored: no_counts(alloc, groups)?,
+            ending: AtomicBool::new(false),
+            handing_on: AtomicBool::new(false),
+        };
+        let generation = Arc::new(alloc, generation)?;
+        Ok(Present { generation, seats })
+    }
+
     /// The first generation, of so many groups.
     pub(crate) fn first(
         alloc: Global,
@@ -115,17 +145,22 @@ impl Generation {
         groups: u32,
         now: Moment,
     ) -> Result<Present, CacheRefusal>
-        ensures past { IfOk result (λ made. made.past ≡ []) }
-        ensures groups { IfOk result (λ made. made.cache.groups ≡ groups) }
+        ensures past { IfOk result (λ made. made.generation.past ≡ []) }
+        ensures groups { IfOk result (λ made. made.generation.cache.groups ≡ groups) }
         ensures count { OnOk result ((0 < seats) × (seats ≤ 64) × IsGroupCount groups) }
         ensures refused { IfErr result (RefusesGroups seats groups) }
     {
         let (cache, seats) = SharedCache::with_groups(alloc, seats, groups)?;
-        let opened = Present::open(alloc, cache, seats, groups, 0, now, Lineage::none());
+        let opened = Generation::open(alloc, cache, seats, groups, 0, now, Lineage::none());
         let Ok(made) = opened else {
             return Err(CacheRefusal::Memory);
         };
         Ok(made)
+    }
+
+    /// Whether it is being handed on, or was: a store in it may not be carried.
+    pub(crate) fn is_handed_on(&self) -> bool {
+        self.handing_on.load(Ordering::SeqCst)
     }
 
     /// The next generation, to which it hands on what lives at this moment.
@@ -141,92 +176,41 @@ impl Generation {
         ensures waits { Waits (rolling_of self.now seat.old) (rolling_of self.now seat.new) }
         ensures at { IsAt (rolling_of self.now seat.new) }
         ensures over { IfOk result (λ made. HandsOver now (rolling_of self.now seat.old)
-            (rolling_of made seat.new)) }
+            (rolling_of made.generation seat.new)) }
     {
+        self.handing_on.store(true, Ordering::SeqCst);
+        let made = self.successor(rt, alloc, seat, seats, now);
+        if made.is_err() {
+            self.handing_on.store(false, Ordering::SeqCst);
+        }
+        made
+    }
+
+    /// The same, once it is told that it is handed on.
+    fn successor<R: Wait>(
+        &self,
+        rt: &R,
+        alloc: Global,
+        seat: &mut Seat,
+        seats: usize,
+        now: Moment,
+    ) -> Result<Present, AllocError>
+        requires at { IsAt (rolling_of self.now seat.old) }
+        ensures waits { Waits (rolling_of self.now seat.old) (rolling_of self.now seat.new) }
+        ensures at { IsAt (rolling_of self.now seat.new) }
+        ensures over { IfOk result (λ made. HandsOver now (rolling_of self.now seat.old)
+            (rolling_of made.generation seat.new)) }
+    {
+        let Some(number) = self.number.checked_add(1) else {
+            return Err(AllocError);
+        };
         let carried = self.cache.carry(alloc, seat, now)?;
         let lineage = self.lineage.with(&seat.notice(), &carried);
         let Ok((cache, seats)) = SharedCache::successor(rt, alloc, &carried, seats) else {
             return Err(AllocError);
         };
         let groups = carried.groups();
-        let number = self.number.wrapping_add(1);
-        let made = Present::open(alloc, cache, seats, groups, number, now, lineage)?;
+        let made = Generation::open(alloc, cache, seats, groups, number, now, lineage)?;
         Ok(made)
-    }
-}
-
-/// The present generation, and its seats that are still to be taken.
-#[derive(Drop)]
-pub(crate) struct Present {
-    pub generation: Arc<Generation>,
-    pub seats: Vec<Seat>,
-}
-
-impl Model for Present {
-    ghost use Rattle.std.specs.Arc.{arc_value};
-    ghost use Rattle.std.specs.List.{All};
-    ghost use Rattle.rolling_cache.specs.Rolling.{GenerationView, IsFresh, rolling_of};
-
-    ghost Value = { GenerationView };
-
-    ghost view = { λ it. arc_value it.generation };
-
-    ghost invariant = { λ it.
-        All (λ seat. IsFresh (rolling_of (arc_value it.generation) seat)) it.seats.items };
-}
-
-impl Present {
-    /// A generation that begins, with all of its seats.
-    fn open(
-        alloc: Global,
-        cache: SharedCache,
-        seats: Vec<Seat>,
-        groups: u32,
-        number: u64,
-        began: Moment,
-        lineage: Lineage,
-    ) -> Result<Present, AllocError>
-        requires law_descends { Descends lineage }
-        requires fresh { All (λ seat. IsFresh (rolling_of (generation_of cache lineage) seat))
-            seats.items }
-        ensures { IfOk result (λ made. made ≡ generation_of cache lineage) }
-    {
-        let generation = Generation {
-            cache,
-            number,
-            lineage,
-            began,
-            stored: no_counts(alloc, groups)?,
-            ending: AtomicBool::new(false),
-        };
-        let generation = Arc::new(alloc, generation)?;
-        Ok(Present { generation, seats })
-    }
-
-    /// One of its seats, where one is left.
-    pub(crate) fn take(&mut self) -> Option<RollingSeat>
-        ensures fresh { IfSome result IsFresh }
-        ensures here { IfSome result (λ made. made.generation ≡ self.old) }
-        ensures same { self.new ≡ self.old }
-    {
-        let Ok(generation) = Arc::try_clone(&self.generation) else {
-            return None;
-        };
-        let seat = self.seats.pop()?;
-        Some(RollingSeat { generation, seat })
-    }
-
-    /// Lets a seat go over to this generation, where one of its seats is left.
-    pub(crate) fn welcome(&mut self, seat: &mut RollingSeat) -> Change
-        requires { IsAt seat.old }
-        ensures at { IsAt seat.new }
-        ensures changed { (now : ℕ) → Changes now seat.old seat.new result }
-        ensures same { self.new ≡ self.old }
-    {
-        let Some(next) = self.take() else {
-            return Change::Stays;
-        };
-        *seat = next;
-        Change::Moved
     }
 }

@@ -27,12 +27,24 @@
 //! So it is before the group is full, as long as at most 63 questions of a group have answers that
 //! live. It is also to end once a group was full after the moment at which the generation began:
 //! where more than that live, there is a new generation each second at most. `renew` begins the
-//! next one in any case. The others take a lock only where they take their seat of another
-//! generation, and where it is not free they go on at theirs until the next call.
+//! next one in any case. The others take the present generation out of its place only where they
+//! take their seat there. Where another thread has taken it out, they go on at theirs until the
+//! next call. No thread waits for another one.
 //!
-//! What a thread stores at its generation while another one carries may not be carried: it is lost,
-//! and is asked for again. A thread that goes over may then find an older answer to the question,
-//! if that was carried and lives. An answer is never found when its life has ended.
+//! What a thread stores at its generation while another one carries may not be carried. So a seat
+//! keeps what it stores from the beginning of a carrying on, up to 1,024 stores where there is
+//! memory, and `catch_up` and `renew` store it again at the generation that the seat goes over to:
+//! what still lives, where no answer that lives was stored there at that moment or later. So a
+//! thread does not ask for the same answer again while it lives. Other threads may find it a moment
+//! later, and ask meanwhile. A seat that is taken apart (`into_parts`) keeps nothing.
+//!
+//! Catch up before replies are heard, too, and not before requests alone: a seat that stays where
+//! it is for long stores where no other one looks, and keeps no more than those.
+//!
+//! A seat is one of the cache that gave it: contracts tell a cache by its first generation
+//! (`root_of`), and no other cache takes the seat. No seat is given out twice, and a seat goes over
+//! to later generations alone (`IsLater`). That the one it leaves is among those before the next
+//! one is so, but no contract says it.
 //!
 //! A generation is freed when its last seat has left it and a later one is present. So a thread
 //! that calls nothing for long keeps one old generation, and no other one.
@@ -59,8 +71,10 @@
 
 mod change;
 mod generation;
+mod late_store;
 mod laws;
 mod lineage;
+mod present;
 mod rolling;
 mod seat;
 

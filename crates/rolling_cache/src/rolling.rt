@@ -9,18 +9,21 @@ ghost use Rattle.answer_log.specs.Histories.{cached};
 ghost use Rattle.dns_answers.specs.Found.{answer_in};
 ghost use Rattle.answer_cache.specs.Seats.{GoesOn, IsRefused, IsStored, StoresNothing, offer_of};
 ghost use Rattle.answer_cache.specs.Shared.{Refuses, RefusesGroups};
-ghost use Rattle.rolling_cache.specs.Rolling.{Changes, IsAt, IsFirst, IsFresh, IsFreshAt, IsOfGroups, Waits};
+ghost use Rattle.rolling_cache.specs.Rolling.{Changes, IsFirst, IsFreshAfter, IsFreshAt, IsOf};
+ghost use Rattle.rolling_cache.specs.Rolling.{HandsOver, IsAt, IsFresh, IsOfGroups, IsSeatOf, Waits};
 
 use crate::change::Change;
-use crate::generation::{Generation, Present};
+use crate::generation::Generation;
+use crate::present::{Present, PresentSlot};
 use crate::seat::RollingSeat;
 use answer_cache::{AnswerBook, CacheRefusal, StoreRefusal, Stores};
 use answer_log::LEAST_GROUPS;
 use dns_answers::{Answer, FoundAnswer, Moment};
 use dns_message::Question;
 use std::alloc::{AllocError, Global};
+use std::marker::Model;
 use std::sync::atomic::{AtomicU64, Ordering};
-use std::sync::{Arc, Mutex, Wait};
+use std::sync::{Arc, Wait};
 
 /// A cache for an element that runs for long: one `SharedCache` after the other, each of which
 /// begins with what lives of the one before it.
@@ -29,7 +32,18 @@ pub struct RollingCache {
     alloc: Global,
     seats: usize,
     number: AtomicU64,
-    present: Mutex<Present>,
+    present: PresentSlot,
+}
+
+impl Model for RollingCache {
+    ghost use Rattle.answer_cache.specs.Shared.{CacheView, cache_coded};
+
+    ghost Value = { CacheView };
+
+    ghost coded = { cache_coded };
+
+    // The cache of its first generation.
+    ghost view = { λ it. it.present };
 }
 
 /// Takes so many seats of the present generation.
@@ -38,9 +52,9 @@ fn take_seats(
     present: &mut Present,
     seats: usize,
 ) -> Result<Vec<RollingSeat>, AllocError>
-    ensures fresh { IfOk result (λ made. All (IsFreshAt present.old) made.items) }
+    ensures fresh { IfOk result (λ made. All (IsFreshAt present.old.generation) made.items) }
     ensures count { IfOk result (λ made. length made.items ≡ seats) }
-    ensures same { present.new ≡ present.old }
+    ensures same { present.new.generation ≡ present.old.generation }
 {
     let mut made = Vec::new(alloc);
     'seats: for _seat in 0..seats {
@@ -63,6 +77,7 @@ impl RollingCache {
         now: Moment,
     ) -> Result<(RollingCache, Vec<RollingSeat>), CacheRefusal>
         ensures first { IfOk result (λ made. All IsFirst made.1.items) }
+        ensures of { IfOk result (λ made. All (IsSeatOf made.0) made.1.items) }
         ensures groups { IfOk result (λ made. All (IsOfGroups 64) made.1.items) }
         ensures count { IfOk result (λ made. length made.1.items ≡ seats) }
         ensures refused { IfErr result (Refuses seats) }
@@ -83,6 +98,7 @@ impl RollingCache {
         now: Moment,
     ) -> Result<(RollingCache, Vec<RollingSeat>), CacheRefusal>
         ensures first { IfOk result (λ made. All IsFirst made.1.items) }
+        ensures of { IfOk result (λ made. All (IsSeatOf made.0) made.1.items) }
         ensures groups { IfOk result (λ made. All (IsOfGroups groups) made.1.items) }
         ensures count { IfOk result (λ made. length made.1.items ≡ seats) }
         ensures refused { IfErr result (RefusesGroups seats groups) }
@@ -91,34 +107,38 @@ impl RollingCache {
         let Ok(made) = take_seats(alloc, &mut present, seats) else {
             return Err(CacheRefusal::Memory);
         };
+        let Ok(first) = Arc::try_clone(&present.generation) else {
+            return Err(CacheRefusal::Memory);
+        };
         let cache = RollingCache {
             alloc,
             seats,
             number: AtomicU64::new(0),
-            present: Mutex::new(present),
+            present: PresentSlot::new(present, &first.cache),
         };
         Ok((cache, made))
     }
 
-    /// A seat at the present generation, where that is another one than this, no thread changes it
+    /// A seat at the present generation, where that is a later one than this, no thread changes it
     /// just now, and a seat is left. Each seat that the cache was made with may take one in each
     /// generation.
     #[must_use]
     pub fn seat_after(&self, generation: &Generation) -> Option<RollingSeat>
-        ensures { IfSome result IsFresh }
+        ensures { IfSome result (IsFreshAfter self.now generation.now) }
     {
-        if self.number.load(Ordering::SeqCst) == generation.number {
+        if self.number.load(Ordering::SeqCst) <= generation.number {
             return None;
         }
-        let mut present = self.present.try_lock()?;
-        if present.generation.number == generation.number {
-            return None;
-        }
-        present.take()
+        let mut present = self.present.take()?;
+        let next = present.seat_after(generation);
+        self.present.give(present);
+        next
     }
 
-    /// Goes over to the present generation, where that is another one, and begins the next one
-    /// where it is to end. Call it between requests: before each, or before each batch.
+    /// Goes over to the present generation, where that is a later one, and begins the next one
+    /// where it is to end. Call it between requests, and before replies are heard: before each, or
+    /// before each batch. What the seat had stored while its generation was handed on, and lives,
+    /// is stored again.
     ///
     /// It waits for no other thread: where one changes the generation just now, the seat stays.
     ///
@@ -130,13 +150,13 @@ impl RollingCache {
         seat: &mut RollingSeat,
         now: Moment,
     ) -> Result<Change, AllocError>
-        requires { IsAt seat.old }
-        ensures at { IsAt seat.new }
+        requires { IsSeatOf self.now seat.old }
+        ensures at { IsSeatOf self.now seat.new }
         ensures changed { IfOk result (Changes now seat.old seat.new) }
         ensures waits { OnErr result (Waits seat.old seat.new) }
     {
         if let Some(next) = self.seat_after(&seat.generation) {
-            *seat = next;
+            seat.go_over(rt, next, now);
             return Ok(Change::Moved);
         }
         if !seat.generation.is_ending() {
@@ -156,16 +176,42 @@ impl RollingCache {
         seat: &mut RollingSeat,
         now: Moment,
     ) -> Result<Change, AllocError>
-        requires { IsAt seat.old }
-        ensures at { IsAt seat.new }
+        requires { IsSeatOf self.now seat.old }
+        ensures at { IsSeatOf self.now seat.new }
         ensures changed { IfOk result (Changes now seat.old seat.new) }
         ensures waits { OnErr result (Waits seat.old seat.new) }
     {
-        let Some(mut present) = self.present.try_lock() else {
+        let Some(mut present) = self.present.take() else {
             return Ok(Change::Stays);
         };
-        if present.generation.number != seat.generation.number {
-            return Ok(present.welcome(seat));
+        let changed = self.change(rt, &mut present, seat, now);
+        self.present.give(present);
+        changed
+    }
+
+    /// The same, where the present generation was taken out.
+    fn change<R: Wait>(
+        &self,
+        rt: &R,
+        present: &mut Present,
+        seat: &mut RollingSeat,
+        now: Moment,
+    ) -> Result<Change, AllocError>
+        requires seat { IsSeatOf self.now seat.old }
+        requires present { IsOf self.now present.old.generation }
+        ensures at { IsSeatOf self.now seat.new }
+        ensures present { IsOf self.now present.new.generation }
+        ensures changed { IfOk result (Changes now seat.old seat.new) }
+        ensures waits { OnErr result (Waits seat.old seat.new) }
+    {
+        if seat.generation.number != present.generation.number {
+            return Ok(match present.seat_after(&seat.generation) {
+                Some(next) => {
+                    seat.go_over(rt, next, now);
+                    Change::Moved
+                }
+                None => Change::Stays,
+            });
         }
         let (made, next) = seat.next(rt, self.alloc, self.seats, now)?;
         self.number.store(made.generation.number, Ordering::SeqCst);
@@ -187,7 +233,8 @@ impl RollingSeat {
         requires { IsAt self.old }
         ensures at { IsAt self.new }
         ensures waits { Waits self.old self.new }
-        ensures next { IfOk result (λ made. Changes now self.old made.1 Change.Renewed) }
+        ensures next { IfOk result (λ made. IsFresh made.1 × HandsOver now self.old made.1) }
+        ensures present { IfOk result (λ made. made.0.generation ≡ made.1.generation) }
     {
         let mut made = self
             .generation
@@ -202,13 +249,13 @@ impl RollingSeat {
 impl AnswerBook for RollingCache {
     type Seat = RollingSeat;
 
-    ghost use Rattle.rolling_cache.specs.Rolling.{IsAt};
+    ghost use Rattle.rolling_cache.specs.Rolling.{IsSeatOf};
 
-    ghost belongs = { λ cache seat. IsAt seat };
+    ghost belongs = { λ cache seat. IsSeatOf cache seat };
 
     ghost shown = { λ seat. seat.seat.seat };
 
-    ghost holds = { λ cache seat at. at.here.is };
+    ghost holds = { λ cache seat at. at.at.here.is };
 
     // The seat has the generation, and may leave it, so no answer is lent.
     fn look<'a>(
@@ -217,8 +264,8 @@ impl AnswerBook for RollingCache {
         question: &Question,
         now: Moment,
     ) -> Result<Option<FoundAnswer<'a>>, AllocError>
-        requires { IsAt seat.old }
-        ensures stays { IsAt seat.new }
+        requires { IsSeatOf self.now seat.old }
+        ensures stays { IsSeatOf self.now seat.new }
         ensures generation { seat.new.generation ≡ seat.old.generation }
         ensures goes_on { GoesOn seat.old.seat.seat seat.new.seat.seat }
         ensures stores_nothing { StoresNothing seat.old.seat.seat seat.new.seat.seat }
@@ -237,16 +284,15 @@ impl AnswerBook for RollingCache {
         question: &Question,
         now: Moment,
     ) -> Result<Option<Arc<Answer>>, AllocError>
-        requires { IsAt seat.old }
-        ensures stays { IsAt seat.new }
+        requires { IsSeatOf self.now seat.old }
+        ensures stays { IsSeatOf self.now seat.new }
         ensures generation { seat.new.generation ≡ seat.old.generation }
         ensures goes_on { GoesOn seat.old.seat.seat seat.new.seat.seat }
         ensures stores_nothing { StoresNothing seat.old.seat.seat seat.new.seat.seat }
         ensures found { IfOk result (λ found. option_map arc_value found
             ≡ cached seat.new.seat.seat.seen question.now now) }
     {
-        let cache = &seat.generation.cache;
-        cache.lookup(&mut seat.seat, question, now)
+        seat.lookup(question, now)
     }
 }
 
@@ -259,9 +305,9 @@ impl<R: Wait> Stores<R> for RollingCache {
         answer: &Arc<Answer>,
         now: Moment,
     ) -> Result<(), StoreRefusal>
-        requires made_here { IsAt seat.old }
+        requires made_here { IsSeatOf self.now seat.old }
         requires kind { kind_of (arc_value answer.now).records ≡ question.now.kind }
-        ensures stays { IsAt seat.new }
+        ensures stays { IsSeatOf self.now seat.new }
         ensures generation { seat.new.generation ≡ seat.old.generation }
         ensures goes_on { GoesOn seat.old.seat.seat seat.new.seat.seat }
         ensures offered { seat.new.seat.seat.offered ≡ seat.old.seat.seat.offered
@@ -271,9 +317,6 @@ impl<R: Wait> Stores<R> for RollingCache {
         ensures refused { IfErr result (IsRefused seat.old.seat.seat seat.new.seat.seat
             (offer_of question.now (arc_value answer.now) now)) }
     {
-        let cache = &seat.generation.cache;
-        let stored = cache.store(rt, &mut seat.seat, question, answer, now);
-        seat.generation.note(question, stored, now);
-        stored
+        seat.store(rt, question, answer, now)
     }
 }

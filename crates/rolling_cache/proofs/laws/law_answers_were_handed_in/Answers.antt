@@ -1,4 +1,4 @@
-use Rattle.std.proofs.Common.{ap, subst}
+use Rattle.std.proofs.Common.{subst}
 use Rattle.rolling_cache.specs.Eras.{Descends}
 use Rattle.rolling_cache.specs.Rolling.{GenerationView}
 use Rattle.rolling_cache.proofs.Handing.{handed-in}

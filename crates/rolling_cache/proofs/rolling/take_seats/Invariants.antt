@@ -5,6 +5,6 @@ use Rattle.rolling_cache.proofs.rolling.take_seats.Given as goal
 
 abbrev pub invariant-seats : goal.invariant-seats
 invariant-seats l =
-    (l.present ≡ l.initial.present)
-    × All (IsFreshAt l.initial.present) l.made.items
+    (l.present.generation ≡ l.initial.present.generation)
+    × All (IsFreshAt l.initial.present.generation) l.made.items
     × (length l.made.items ≡ l._seat)

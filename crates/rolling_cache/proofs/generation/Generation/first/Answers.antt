@@ -1,7 +1,7 @@
-use Rattle.rolling_cache.proofs.Opening.{fresh-first}
+use Rattle.rolling_cache.proofs.Opening.{left-first}
 use Rattle.rolling_cache.proofs.generation.Generation.first.Goals as goal
 
-pub open-opened-requires-clause-fresh : goal.open-opened-requires-clause-fresh
-open-opened-requires-clause-fresh c =
-    fresh-first c.in_ok-cache.cache c.args.seats c.none.result c.in_ok-cache.seats.items c.none.ensures
+pub open-opened-requires-clause-left : goal.open-opened-requires-clause-left
+open-opened-requires-clause-left c =
+    left-first c.in_ok-cache.cache c.args.seats c.none.result c.in_ok-cache.seats.items c.none.ensures
     c.in_ok-cache.ensures.belong c.in_ok-cache.ensures.seats
