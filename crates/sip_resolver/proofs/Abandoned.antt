@@ -1,5 +1,5 @@
 -- Questions that no request waits for any more.
-use Rattle.std.proofs.Common.{◌≡◌, ℕ, ◌&&◌, ◌||◌, Bool, eq-eqb, true, false, not, nat_eq, List, [], ◌∷◌, ◌++◌, get_or, refl, sym, ap, rules}
+use Rattle.std.proofs.Common.{◌≡◌, ℕ, ◌&&◌, ◌||◌, Bool, eq-eqb, true, false, not, nat_eq, List, [], ◌∷◌, ◌++◌, get_or, refl, sym, ap, ◌∙◌, rules}
 use Rattle.std.specs.List.{All, filter, find}
 use Rattle.std.proofs.lemmas.List.Elements.{filter_agree}
 use Rattle.std.proofs.lemmas.List.Folds.{list_any-append, list_any_at}
@@ -73,6 +73,19 @@ pub awaited-self : (waiting : List WaitingView) → All (λ it. is_awaited waiti
 awaited-self waiting k d small =
     let it : WaitingView = get_or waiting k d in list_any_at (waits_for it.id) waiting k d small (eq-eqb it.id it.id refl)
 
+swapped-by : (a b c : Bool) → (a || (b || c)) ≡ (b || (a || c))
+swapped-by true true c = refl
+swapped-by true false c = refl
+swapped-by false b c = refl
+
+-- in its place or in front
+pub awaited-moved : (first later : List WaitingView) (it : WaitingView) (id : ℕ)
+    → is_awaited (first ++ it ∷ later) id ≡ is_awaited (it ∷ first ++ later) id
+awaited-moved first later it id =
+    list_any-append (waits_for id) first (it ∷ later)
+    ∙ swapped-by (is_awaited first id) (nat_eq it.id id) (is_awaited later id)
+    ∙ ap (λ rest. nat_eq it.id id || rest) (sym (list_any-append (waits_for id) first later))
+
 -- ---- what is left
 
 through-by : (a b c : Bool) → (b ≡ true → a ≡ true) → (c ≡ true → b ≡ true)
@@ -106,6 +119,14 @@ all-by old new asking none =
 none-by : (a : Bool) → (a && not a) ≡ false
 none-by true = refl
 none-by false = refl
+
+-- where the same waited
+pub left-same : (old other new : List WaitingView) (asking : Asking) → ((id : ℕ) → is_awaited old id ≡ is_awaited other id)
+    → without_abandoned old new asking ≡ without_abandoned other new asking
+left-same old other new asking same =
+    ap (λ l. record asking { tickets = l })
+    (filter_agree (λ (it : Ticket). not (is_abandoned old new it.sent.id)) (λ (it : Ticket). not (is_abandoned other new it.sent.id))
+    (λ it. rw (same it.sent.id) refl) asking.tickets)
 
 -- nothing was abandoned
 pub left-not : (waiting : List WaitingView) (asking : Asking) → without_abandoned waiting waiting asking ≡ asking
@@ -186,6 +207,11 @@ module _ (questions : QuestionsView) where
       → questions_left middle new (questions_left old middle questions) ≡ questions_left old new questions
   questions-through old middle new first second =
       rw (left-through old middle new questions.datagrams first second, left-through old middle new questions.streams first second) refl
+
+  pub questions-same : (old other new : List WaitingView) → ((id : ℕ) → is_awaited old id ≡ is_awaited other id)
+      → questions_left old new questions ≡ questions_left other new questions
+  questions-same old other new same =
+      rw (left-same old other new questions.datagrams same, left-same old other new questions.streams same) refl
 
   pub questions-not : (waiting : List WaitingView) → questions ≡ questions_left waiting waiting questions
   questions-not waiting = rw (left-not waiting questions.datagrams, left-not waiting questions.streams) refl

@@ -1,20 +1,21 @@
 -- What is left of the requests and the questions after a request was cancelled.
-use Rattle.std.proofs.Common.{false, ◌+◌, ◌<◌, ◌∷◌, ◌++◌, [], ap, ◌∙◌, ◌≡◌, inl, inr, ℕ, ◌≤◌, Bool, true, not, nat_eq, List, get_or, length, map, Option, refl, sym, subst}
+use Rattle.std.proofs.Common.{false, ◌<◌, ◌∷◌, ◌++◌, [], ap, ◌∙◌, ◌≡◌, inl, inr, ℕ, Bool, true, not, nat_eq, List, get_or, length, map, Option, refl, sym, subst, arith}
 use Rattle.std.specs.List.{All, Contains, filter, find}
 use Rattle.std.specs.Option.{IsSome}
-use Rattle.std.proofs.lemmas.List.{append-nil}
+use Rattle.std.proofs.lemmas.List.{append-nil, length-append}
 use Rattle.std.proofs.lemmas.List.Elements.{All-filter}
 use Rattle.answer_cache.specs.Seats.{SeatView}
 use Rattle.dns_queries.specs.Tickets.{Asking, Ticket, has_id}
-use Rattle.sip_resolver.proofs.Abandoned.{awaited-behind, awaited-left, awaited-self, awaited-turned, questions-not, questions-through}
-use Rattle.sip_resolver.proofs.Circling.{Circled, circled-not, circled-on, circled-over, others-all, others-lack}
+use Rattle.sip_resolver.proofs.Abandoned.{awaited-behind, awaited-left, awaited-moved, awaited-self, awaited-turned, questions-alone, questions-not, questions-same, questions-shared, questions-through}
+use Rattle.sip_resolver.proofs.Circling.{others-all, others-lack, others-left, others-stay}
 use Rattle.sip_resolver.proofs.Queues.{in-first, in-last, in-second, in-third, only-last}
 use Rattle.sip_resolver.specs.Cancels.{is_awaited, others_by, questions_left, requests_without, without_abandoned}
 use Rattle.sip_resolver.specs.Idle.{AreAwaited, IsIn}
 use Rattle.sip_resolver.specs.Outcomes.{Ended, IsOutcome}
-use Rattle.sip_resolver.specs.Questions.{QuestionsView}
-use Rattle.sip_resolver.specs.Requests.{IsWithoutEnded, IsWithoutHeld, IsWithoutReady, IsWithoutWaiting, RequestsView, Stand, number_of_ended, number_of_waiting, numbers_of, requests_of}
+use Rattle.sip_resolver.specs.Questions.{QuestionsView, closed_both}
+use Rattle.sip_resolver.specs.Requests.{IsWithoutEnded, IsWithoutHeld, IsWithoutNumbered, IsWithoutReady, RequestsView, Stand, number_of_ended, number_of_waiting, numbers_of, requests_of}
 use Rattle.sip_resolver.specs.Tasks.{IsCounted, Lacks, TaskView, WaitingView}
+use Rattle.sip_resolver.specs.WaitingQueues.{HaveOther}
 
 module _ (number : ℕ) (it : RequestsView) where
   abbrev readies : List ℕ
@@ -38,6 +39,21 @@ module _ (number : ℕ) (it : RequestsView) where
         others-all (λ (task : TaskView). task.number) number it.held
             (λ there. none (in-second readies helds waitings endeds number there)),
         others-all number_of_waiting number it.waiting (λ there. none (in-third readies helds waitings endeds number there)),
+        others-all number_of_ended number it.ended (λ there. none (in-last readies helds waitings endeds number there)),
+      ) refl
+
+  -- the same of those that do not wait
+  pub rest-none : (Contains (numbers_of it) number → ⊥) → it ≡ record it {
+    ready = others_by (λ task. task.number) number it.ready;
+    held = others_by (λ task. task.number) number it.held;
+    ended = others_by number_of_ended number it.ended;
+  }
+  rest-none none =
+      rw (
+        others-all (λ (task : TaskView). task.number) number it.ready
+            (λ there. none (in-first readies helds waitings endeds number there)),
+        others-all (λ (task : TaskView). task.number) number it.held
+            (λ there. none (in-second readies helds waitings endeds number there)),
         others-all number_of_ended number it.ended (λ there. none (in-last readies helds waitings endeds number there)),
       ) refl
 
@@ -107,69 +123,77 @@ module _ (stays : WaitingView → Bool) (it : WaitingView) (others : List Waitin
   pub awaited-back : is_awaited (others ++ filter stays (it ∷ [])) id ≡ true → is_awaited (it ∷ others) id ≡ true
   awaited-back waits = back-by (stays it) refl waits
 
--- so many that waited were taken from the front, and put back but for those of the number
-pub record Turned (number : ℕ) (old now : RequestsView) (asked asks : QuestionsView) (count : ℕ) : Type 0 where
-  pub circled : Circled (λ it. not (nat_eq (number_of_waiting it) number)) old.waiting now.waiting count
+-- ---- those of a number are taken out of those that wait
+
+-- some of the number were taken out
+pub record Removed (number : ℕ) (old now : RequestsView) (asked asks : QuestionsView) : Type 0 where
+  pub same : others_by number_of_waiting number now.waiting ≡ others_by number_of_waiting number old.waiting
   pub others : now ≡ record old { waiting = now.waiting }
   pub fewer : (id : ℕ) → is_awaited now.waiting id ≡ true → is_awaited old.waiting id ≡ true
   pub questions : asks ≡ questions_left old.waiting now.waiting asked
 
-pub turned-not : (number : ℕ) (old : RequestsView) (asked : QuestionsView) → Turned number old old asked asked 0
-turned-not number old asked = record {
-  circled = circled-not (λ it. not (nat_eq (number_of_waiting it) number)) old.waiting;
-  others = refl;
-  fewer = λ id waits. waits;
-  questions = questions-not asked old.waiting;
-}
+pub removed-not : (number : ℕ) (old : RequestsView) (asked : QuestionsView) → Removed number old old asked asked
+removed-not number old asked =
+    record { same = refl; others = refl; fewer = λ id waits. waits; questions = questions-not asked old.waiting }
 
-module _ (number : ℕ) (old now middle new : RequestsView) (asked asks then : QuestionsView) (it : WaitingView) (count : ℕ)
-    (so : Turned number old now asked asks count) (out : IsWithoutWaiting it now middle) (less : count < length old.waiting)
-    (back : new ≡ record middle { waiting = middle.waiting ++ others_by number_of_waiting number (it ∷ []) })
-    (left : then ≡ questions_left (it ∷ middle.waiting) new.waiting asks) where
-  abbrev test : WaitingView → Bool
-  test waiting = not (nat_eq (number_of_waiting waiting) number)
+module _ (number : ℕ) (now new : RequestsView) (it : WaitingView) (out : IsWithoutNumbered number it now new) where
+  waiting-is : new.waiting ≡ out.first ++ out.later
+  waiting-is = ap (λ (v : RequestsView). v.waiting) out.others
 
-  abbrev last : List WaitingView
-  last = others_by number_of_waiting number (it ∷ [])
+  pub one-less : length new.waiting < length now.waiting
+  one-less =
+      let was = ap length out.was ∙ length-append out.first (it ∷ out.later) in
+      let left = ap length waiting-is ∙ length-append out.first out.later in
+      omega (arith, was, left)
 
-  waiting-is : new.waiting ≡ middle.waiting ++ last
-  waiting-is = ap (λ (v : RequestsView). v.waiting) back
+  waited : (id : ℕ) → is_awaited now.waiting id ≡ is_awaited (it ∷ new.waiting) id
+  waited id =
+      ap (λ l. is_awaited l id) out.was
+      ∙ awaited-moved out.first out.later it id
+      ∙ ap (λ l. is_awaited (it ∷ l) id) (sym waiting-is)
 
-  others-are : new ≡ record old { waiting = new.waiting }
-  others-are =
-      back
-      ∙ ap (λ (v : RequestsView). record v { waiting = middle.waiting ++ last }) out.others
-      ∙ ap (λ (v : RequestsView). record v { waiting = middle.waiting ++ last }) so.others
-      ∙ ap (λ l. requests_of old.ready old.held l old.ended old.limit) (sym waiting-is)
+  module _ (old : RequestsView) (asked asks then : QuestionsView) (so : Removed number old now asked asks)
+      (shared : is_awaited new.waiting it.id ≡ true → then ≡ asks)
+      (alone : is_awaited new.waiting it.id ≡ false → then ≡ closed_both it.id asks) where
+    others-are : new ≡ record old { waiting = new.waiting }
+    others-are =
+        out.others
+        ∙ ap (λ (v : RequestsView). record v { waiting = out.first ++ out.later }) so.others
+        ∙ ap (λ l. requests_of old.ready old.held l old.ended old.limit) (sym waiting-is)
 
-  one-fewer : (id : ℕ) → is_awaited new.waiting id ≡ true → is_awaited now.waiting id ≡ true
-  one-fewer id waits =
-      let waits-too : is_awaited (middle.waiting ++ last) id ≡ true = rw waiting-is at waits in
-      rw out.first (awaited-back test it middle.waiting id waits-too)
+    one-fewer : (id : ℕ) → is_awaited new.waiting id ≡ true → is_awaited now.waiting id ≡ true
+    one-fewer id waits = waited id ∙ awaited-behind it new.waiting id waits
 
-  questions-are : then ≡ questions_left old.waiting new.waiting asked
-  questions-are =
-      left
-      ∙ ap (λ l. questions_left l new.waiting asks) (sym out.first)
-      ∙ ap (λ q. questions_left now.waiting new.waiting q) so.questions
-      ∙ questions-through asked old.waiting now.waiting new.waiting so.fewer one-fewer
+    left-by : (is : Bool) → is_awaited new.waiting it.id ≡ is → then ≡ questions_left (it ∷ new.waiting) new.waiting asks
+    left-by true is = shared is ∙ questions-shared asks it new.waiting is
+    left-by false is = alone is ∙ questions-alone asks it new.waiting is
 
-  pub turned-on : Turned number old new asked then (count + 1)
-  turned-on = record {
-    circled = circled-on test old.waiting now.waiting middle.waiting new.waiting it count so.circled out.first less waiting-is;
-    others = others-are;
-    fewer = λ id waits. so.fewer id (one-fewer id waits);
-    questions = questions-are;
-  }
+    questions-are : then ≡ questions_left old.waiting new.waiting asked
+    questions-are =
+        left-by (is_awaited new.waiting it.id) refl
+        ∙ sym (questions-same asks now.waiting (it ∷ new.waiting) new.waiting waited)
+        ∙ ap (λ q. questions_left now.waiting new.waiting q) so.questions
+        ∙ questions-through asked old.waiting now.waiting new.waiting so.fewer one-fewer
 
--- the turn is over
-pub turned-over : (number : ℕ) (old now : RequestsView) (asked asks : QuestionsView) (count : ℕ)
-    → Turned number old now asked asks count
-    → length old.waiting ≤ count → now ≡ record old { waiting = others_by number_of_waiting number old.waiting }
-turned-over number old now asked asks count so all =
+    pub removed-on : Removed number old new asked then
+    removed-on = record {
+      same = ap (λ l. others_by number_of_waiting number l) waiting-is
+          ∙ others-left number_of_waiting number out.first out.later it out.has_number
+          ∙ ap (λ l. others_by number_of_waiting number l) (sym out.was)
+          ∙ so.same;
+      others = others-are;
+      fewer = λ id waits. so.fewer id (one-fewer id waits);
+      questions = questions-are;
+    }
+
+-- all were taken out
+pub removed-over : (number : ℕ) (old now : RequestsView) (asked asks : QuestionsView) → Removed number old now asked asks
+    → HaveOther number_of_waiting number now.waiting
+    → now ≡ record old { waiting = others_by number_of_waiting number old.waiting }
+removed-over number old now asked asks so none =
     so.others
     ∙ ap (λ l. requests_of old.ready old.held l old.ended old.limit)
-    (circled-over (λ it. not (nat_eq (number_of_waiting it) number)) old.waiting now.waiting count so.circled all)
+    (sym (others-stay number_of_waiting number now.waiting none) ∙ so.same)
 
 -- ---- a turn of those that do not wait
 

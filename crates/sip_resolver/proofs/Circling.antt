@@ -1,8 +1,8 @@
 -- A turn of a queue: each item is taken from the front, and what passes a test is put back behind.
-use Rattle.std.proofs.Common.{◌≡◌, ◌≢◌, ℕ, ◌+◌, ◌<◌, ◌≤◌, Bool, true, false, not, nat_eq, List, [], ◌∷◌, ◌++◌, length, map, refl, sym, ap, ◌∙◌, append_assoc, arith, rules}
-use Rattle.std.specs.List.{Contains, filter}
+use Rattle.std.proofs.Common.{◌≡◌, ◌≢◌, ℕ, ◌+◌, ◌<◌, ◌≤◌, Bool, true, false, not, nat_eq, List, [], ◌∷◌, ◌++◌, length, map, refl, sym, ap, ◌∙◌, append_assoc, eq-eqb, arith, rules}
+use Rattle.std.specs.List.{All, Contains, filter}
 use Rattle.std.proofs.lemmas.List.{append-nil, length-append}
-use Rattle.std.proofs.lemmas.List.Elements.{All-contains, All-map, All-weaker, Contains-append_right, filter-append, filter_passes}
+use Rattle.std.proofs.lemmas.List.Elements.{All-contains, All-head, All-map, All-tail, All-weaker, Contains-append_right, filter-append, filter_passes}
 use Rattle.sip_resolver.specs.Cancels.{others_by}
 
 module _ {X : Type 0} (p : X → Bool) where
@@ -85,6 +85,23 @@ module _ {X : Type 0} (numbered : X → ℕ) (number : ℕ) where
       kept-by is-other x xs (is-other x) refl
       (differs (numbered x) number (λ same. none (0, omega arith, same)))
       (others-all xs (λ there. none (Contains-append_right (numbered x ∷ []) (map numbered xs) number there)))
+
+  -- the same, of each
+  pub others-stay : (xs : List X) → All (λ it. numbered it ≢ number) xs → others_by numbered number xs ≡ xs
+  others-stay [] other = refl
+  others-stay (x ∷ xs) other =
+      kept-by is-other x xs (is-other x) refl
+      (differs (numbered x) number (All-head (λ it. numbered it ≢ number) x xs other))
+      (others-stay xs (All-tail (λ it. numbered it ≢ number) x xs other))
+
+  -- where one that has it is taken out from its place, the others stay
+  pub others-left : (first later : List X) (x : X) → numbered x ≡ number
+      → others_by numbered number (first ++ later) ≡ others_by numbered number (first ++ x ∷ later)
+  others-left first later x same =
+      let its : others_by numbered number (x ∷ later) ≡ others_by numbered number later = rw (eq-eqb (numbered x) number same) refl in
+      filter-append is-other first later
+      ∙ ap (λ l. others_by numbered number first ++ l) (sym its)
+      ∙ sym (filter-append is-other first (x ∷ later))
 
   -- none of those that stay has it
   pub others-lack : (xs : List X) → Contains (map numbered (others_by numbered number xs)) number → ⊥

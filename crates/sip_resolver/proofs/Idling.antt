@@ -1,5 +1,5 @@
 -- When nothing is left to do at a moment.
-use Rattle.std.proofs.Common.{◌≡◌, ◌⊎◌, inl, inr, ℕ, ◌+◌, ◌≤◌, List, [], ◌∷◌, length, Option, Some, None, Result, Ok, Err, refl, ap, arith}
+use Rattle.std.proofs.Common.{◌≡◌, ◌⊎◌, inl, inr, ℕ, ◌+◌, ◌≤◌, List, [], ◌∷◌, length, Option, Some, None, Result, Ok, Err, refl, ap, ◌∙◌, arith}
 use Rattle.std.specs.List.{All}
 use Rattle.std.proofs.lemmas.List.Elements.{All-nil}
 use Rattle.std.specs.Option.{IfNone, IsSome, MatchOption}
@@ -11,12 +11,14 @@ use Rattle.dns_queries.specs.declared.incoming.Incoming.TheVariants.{Ended, Igno
 use Rattle.dns_queries.specs.declared.refusal.AskRefusal.{AskRefusal}
 use Rattle.dns_queries.specs.declared.refusal.AskRefusal.TheVariants.{IdTaken, Full, Spent, Memory}
 use Rattle.dns_message.specs.declared.question.Question.{Question}
-use Rattle.sip_resolver.specs.Idle.{CannotAsk, IsIdle, IsInWait, IsOut, MayRefuse}
-use Rattle.sip_resolver.specs.Questions.{QuestionsView, asking_over}
+use Rattle.sip_resolver.specs.Idle.{CannotAsk, IsBefore, IsIdle, IsInWait, IsOut, IsTurn, MayRefuse, no_room, none_held}
+use Rattle.sip_resolver.specs.Questions.{IsSent, QuestionsView, asking_over}
 use Rattle.sip_resolver.specs.Requests.{RequestsView}
-use Rattle.sip_resolver.specs.Tasks.{TaskView}
+use Rattle.sip_resolver.specs.Sends.{SendsFirst, sent_id}
+use Rattle.sip_resolver.specs.Tasks.{TaskView, WaitingView, over_of}
 use Rattle.sip_resolver.specs.declared.transmit.DnsTransport.{DnsTransport}
 use Rattle.sip_resolver.specs.declared.transmit.DnsTransport.TheVariants.{Datagram, Stream}
+use Rattle.sip_resolver.specs.declared.transmit.Transmit.{Transmit}
 
 -- ---- a question that can't be asked
 
@@ -122,11 +124,11 @@ none-held (task ∷ held) count first turned all = absurd (omega (arith, turned,
 module _ {I : Type 0} (draws : I → ℕ → I → Type 0) where
   -- one more turn
   pub held-turned : (first count : ℕ) (held middle new : List TaskView) (task : TaskView) (before after : QuestionsView)
-      → (length held + count ≡ first) ⊎ CannotAsk draws before → held ≡ task ∷ middle → (new ≡ middle) ⊎ CannotAsk draws after
+      → (length held + count ≡ first) ⊎ CannotAsk draws before → held ≡ task ∷ middle → (new ≡ middle) ⊎ CannotAsk draws before
       → after ≡ before → (length new + (count + 1) ≡ first) ⊎ CannotAsk draws after
   held-turned first count held middle new task before after (inl turned) out (inl same) asking =
       inl (let whole = ap length out in let same' = ap length same in omega (arith, turned, whole, same'))
-  held-turned first count held middle new task before after (inl turned) out (inr cannot) asking = inr cannot
+  held-turned first count held middle new task before after (inl turned) out (inr cannot) asking = inr (rw asking cannot)
   held-turned first count held middle new task before after (inr cannot) out same asking = inr (rw asking cannot)
 
   pub held-over : (count first : ℕ) (held : List TaskView) (it : QuestionsView) → (length held + count ≡ first) ⊎ CannotAsk draws it
@@ -134,12 +136,58 @@ module _ {I : Type 0} (draws : I → ℕ → I → Type 0) where
   held-over count first held it (inl turned) all = inl (none-held held count first turned all)
   held-over count first held it (inr cannot) all = inr cannot
 
+  -- those that are held stay so where one that can go on is held too
+  pub held-kept : (first now middle new : List TaskView) (before after : QuestionsView) → (now ≡ first) ⊎ CannotAsk draws before
+      → middle ≡ now → (new ≡ middle) ⊎ CannotAsk draws after → after ≡ before → (new ≡ first) ⊎ CannotAsk draws before
+  held-kept first now middle new before after (inl same) out (inl still) asking = inl (still ∙ out ∙ same)
+  held-kept first now middle new before after (inl same) out (inr cannot) asking = inr (rw asking at cannot)
+  held-kept first now middle new before after (inr cannot) out still asking = inr cannot
+
+  held-then : (held new : List TaskView) (it : QuestionsView) → (held ≡ []) ⊎ CannotAsk draws it → (new ≡ held) ⊎ CannotAsk draws it
+      → (new ≡ []) ⊎ CannotAsk draws it
+  held-then held new it (inl none) (inl same) = inl (same ∙ none)
+  held-then held new it (inl none) (inr cannot) = inr cannot
+  held-then held new it (inr cannot) same = inr cannot
+
+  -- ---- whose turn it was
+
+  before-of : (asked : ℕ) (waiting : List WaitingView) (before after : QuestionsView) (result : Option ℕ)
+      → MatchOption result (after ≡ before) (λ id. SendsFirst asked id waiting before after) → IsBefore asked result before after
+  before-of asked waiting before after None same = same
+  before-of asked waiting before after (Some id) first = (over_of first.task, first.question, first.is_asked)
+
+  turn-by : (asked : ℕ) (old new : RequestsView) (before after : QuestionsView) (result : Option ℕ) → IsBefore asked result before after
+      → (new.held ≡ []) ⊎ CannotAsk draws before → IsTurn draws asked result old new after
+  turn-by asked old new before after result is (inl none) = none_held none
+  turn-by asked old new before after result is (inr cannot) = no_room before is cannot
+
+  -- those that were held went on first
+  pub turn-after : (asked : ℕ) (old new : RequestsView) (held : List TaskView) (before after : QuestionsView) (result : Option ℕ)
+      → (held ≡ []) ⊎ CannotAsk draws before → (new.held ≡ held) ⊎ CannotAsk draws before
+      → MatchOption result (after ≡ before) (λ id. SendsFirst asked id new.waiting before after) → IsTurn draws asked result old new after
+  turn-after asked old new held before after result none same sends =
+      turn-by asked old new before after result (before-of asked new.waiting before after result sends)
+      (held-then held new.held before none same)
+
+  -- the message that is sent has the id
+  pub turn-sent : (asked id : ℕ) (old new : RequestsView) (it : QuestionsView) (transmit : Option Transmit) → IsSent id it transmit
+      → ((P : Type 0) → IfNone transmit P) → IsTurn draws asked (Some id) old new it → IsTurn draws asked (sent_id transmit) old new it
+  turn-sent asked id old new it None sent none turn = none (IsTurn draws asked None old new it)
+  turn-sent asked id old new it (Some transmit) sent none turn = rw sent.named turn
+
   -- ---- nothing is left to do
 
-  pub idle-after : (now : ℕ) (requests : RequestsView) (middle new : QuestionsView) (result : Option ℕ) (P : ℕ → Type 0)
-      → All (IsInWait now) middle.datagrams.tickets → All (IsInWait now) middle.streams.tickets → requests.ready ≡ []
-      → IfNone result ((requests.held ≡ []) ⊎ CannotAsk draws new) → MatchOption result (new ≡ middle) P
+  pub idle-after : (now : ℕ) (requests : RequestsView) (held : List TaskView) (middle new : QuestionsView) (result : Option ℕ)
+      (P : ℕ → Type 0)
+      → All (IsInWait now) middle.datagrams.tickets → All (IsInWait now) middle.streams.tickets
+      → IfNone result (requests.ready ≡ []) → (held ≡ []) ⊎ CannotAsk draws middle
+      → (requests.held ≡ held) ⊎ CannotAsk draws middle → MatchOption result (new ≡ middle) P
       → IfNone result (IsIdle draws now requests new)
-  idle-after now requests middle new None P datagrams streams ready held same =
-      record { datagrams = rw same datagrams; streams = rw same streams; ready = ready; held = held }
-  idle-after now requests middle new (Some id) P datagrams streams ready held same = tt
+  idle-after now requests held middle new None P datagrams streams ready none kept same =
+      record {
+        datagrams = rw same datagrams;
+        streams = rw same streams;
+        ready = ready;
+        held = rw same (held-then held requests.held middle none kept);
+      }
+  idle-after now requests held middle new (Some id) P datagrams streams ready none kept same = tt

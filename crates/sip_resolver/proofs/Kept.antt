@@ -272,7 +272,7 @@ module _ (ready held : Queued TaskView) (waiting : Queued WaitingView) (ended : 
     its-untils : IsEarliest (one.task.until ∷ untils_in ready.items held.items (first ++ later)) earliest
     its-untils = waiting-out ready.items held.items first later earliest one (rw was at kept.earliest_is)
 
-    waiting-counted : ends_at earliest.moment one.task.until ≤ earliest.count
+    pub waiting-counted : ends_at earliest.moment one.task.until ≤ earliest.count
     waiting-counted = counted one.task.until (untils_in ready.items held.items (first ++ later)) earliest its-untils
 
     pub waiting-less : (new : Queued WaitingView) (now : Earliest) (filter : FilterView) → new.items ≡ first ++ later

@@ -9,6 +9,7 @@ pub mod Weighing
 pub mod Storing
 pub mod Inside
 pub mod Linking
+pub mod Finding
 pub mod Slotting
 pub mod Waiters
 pub mod Lining

@@ -1,23 +1,19 @@
 -- The queue of those that wait, over slots.
 use Rattle.std.proofs.Common.{◌≡◌, ◌≢◌, ◌↔◌, ℕ, ◌<◌, ◌≤◌, ◌+◌, ◌-◌, List, [], ◌∷◌, ◌++◌, Some, None, Option, length, map, set, take, drop, refl, sym, ap, ◌∙◌, arith}
 use Rattle.std.specs.Bool.{IsTrue}
-use Rattle.std.specs.List.{All, Contains}
-use Rattle.std.specs.Option.{MatchOption, is_some}
-use Rattle.std.proofs.lemmas.List.{length-append, length-set, length_push, take-append-le, take_all}
+use Rattle.std.specs.List.{All, Contains, slice_get}
+use Rattle.std.specs.Option.{IsSomeAnd, MatchOption, is_some}
+use Rattle.std.proofs.lemmas.List.{length-append, length-set, length_push, take-append-le}
 use Rattle.std.proofs.lemmas.List.Elements.{All-contains, All-map, filter_map-append}
 use Rattle.std.proofs.lemmas.Option.{same_Some}
 use Rattle.sip_resolver.proofs.Queues.{found-there}
-use Rattle.sip_resolver.proofs.Slotting.{emptied, items-left, items-parts, none-for, none-still}
-use Rattle.sip_resolver.proofs.Waiters.{none-awaited, there-awaited}
+use Rattle.sip_resolver.proofs.Slotting.{emptied, items-left, items-parts, none-still, stands-there}
+use Rattle.sip_resolver.proofs.Waiters.{none-awaited, none-of-id, there-awaited}
 use Rattle.sip_resolver.specs.Cancels.{is_awaited}
 use Rattle.sip_resolver.specs.Queues.{Queued}
-use Rattle.sip_resolver.specs.Requests.{IsAwaitedBy, number_of_waiting, waiting_for}
-use Rattle.sip_resolver.specs.Tasks.{WaitingView}
-use Rattle.sip_resolver.specs.WaitingQueues.{AreQueued, IsTakenAt, IsWithoutFirstFor, NoneBefore, SlotView, WaitsAt, items_of, waiting_in}
-
--- a slot in which this request waits
-abbrev pub slot_with : WaitingView → SlotView
-slot_with it = record { id = it.id; task = Some it.task }
+use Rattle.sip_resolver.specs.Requests.{IsAwaitedBy, number_of_waiting}
+use Rattle.sip_resolver.specs.Tasks.{TaskView, WaitingView}
+use Rattle.sip_resolver.specs.WaitingQueues.{AreQueued, HaveOther, IsFirstOf, IsTakenAt, IsWithoutFirstFor, IsWithoutFirstNumbered, SlotView, id_of, items_of, slot_with, waiting_in}
 
 -- ---- one more
 
@@ -43,6 +39,16 @@ queued-more was made new head start count room it kept few same room-same within
     }
 
 -- ---- one less
+
+abbrev waiting_with : ℕ → TaskView → WaitingView
+waiting_with id task = record { id = id; task = task }
+
+-- a slot tells the request that waits in it
+same-waiting : (one other : WaitingView) → slot_with one ≡ slot_with other → one ≡ other
+same-waiting one other same =
+    let ids : one.id ≡ other.id = ap (λ (slot : SlotView). slot.id) same in
+    let tasks = same_Some one.task other.task (ap (λ (slot : SlotView). slot.task) same) in
+    ap (λ id. waiting_with id one.task) ids ∙ ap (λ task. waiting_with other.id task) tasks
 
 module _ (place : ℕ) (it : WaitingView) (was new : Queued SlotView) (out : IsTakenAt place it was new) where
   abbrev pub front : List WaitingView
@@ -95,32 +101,58 @@ module _ (place : ℕ) (it : WaitingView) (was new : Queued SlotView) (out : IsT
   pub first-out : items_of (take place was.items) ≡ [] → items_of was.items ≡ it ∷ items_of new.items
   first-out none = was-parts ∙ rw (new-parts, none) refl
 
-  -- the first one for an id is taken out
-  pub out-for : (id room : ℕ) → WaitsAt was.items place id → NoneBefore id place was.items
+  -- the first one that has a key is taken out
+  module _ (key_of : WaitingView → ℕ) (key : ℕ) (is_first : IsFirstOf key_of key place was.items) where
+    its-key : key_of it ≡ key
+    its-key =
+        let same = same_Some (slot_with it) (slot_with is_first.it) (sym out.there ∙ is_first.waits) in
+        ap key_of (same-waiting it is_first.it same) ∙ is_first.has_key
+
+  pub out-for : (id room : ℕ) → IsFirstOf id_of id place was.items
       → IsWithoutFirstFor id it (record { items = items_of was.items; room = room }) (record { items = items_of new.items; room = room })
-  out-for id room (task, waits) none = record {
+  out-for id room is_first = record {
     first = front;
     later = back;
     was = was-parts;
-    is_first = none-for id was.items place none;
-    waits = ap (λ (slot : SlotView). slot.id) (same_Some (slot_with it) _ (sym out.there ∙ waits));
+    is_first = none-of-id id front is_first.none_before;
+    waits = its-key id_of id is_first;
+    left = ap (λ items. record { items = items; room = room }) new-parts;
+  }
+
+  pub out-numbered : (number room : ℕ) → IsFirstOf number_of_waiting number place was.items
+      → IsWithoutFirstNumbered number it (record { items = items_of was.items; room = room })
+      (record { items = items_of new.items; room = room })
+  out-numbered number room is_first = record {
+    first = front;
+    later = back;
+    was = was-parts;
+    is_first = is_first.none_before;
+    has_number = its-key number_of_waiting number is_first;
     left = ap (λ items. record { items = items; room = room }) new-parts;
   }
 
 -- ---- whether one waits
 
-pub none-waits : (id : ℕ) (slots : List SlotView) → NoneBefore id (length slots) slots → waiting_for id (items_of slots) ≡ []
-none-waits id slots none = rw (take_all (length slots) slots (omega arith)) at (none-for id slots (length slots) none)
-
 pub awaited-where : (id : ℕ) (slots : List SlotView) (found : Option ℕ)
-    → MatchOption found (NoneBefore id (length slots) slots) (λ place. WaitsAt slots place id × NoneBefore id place slots)
+    → MatchOption found (HaveOther id_of id (items_of slots)) (λ place. IsFirstOf id_of id place slots)
     → is_some found ≡ is_awaited (items_of slots) id
-awaited-where id slots None none = sym (none-awaited id (items_of slots) (none-waits id slots none))
-awaited-where id slots (Some place) ((task, waits), none) =
-    rw (items-parts slots place (record { id = id; task = Some task }) waits)
-    (sym (there-awaited id task (items_of (take place slots)) (items_of (drop (place + 1) slots))))
+awaited-where id slots None none = sym (none-awaited id (items_of slots) (none-of-id id (items_of slots) none))
+awaited-where id slots (Some place) is_first =
+    let it = is_first.it in
+    let same : it ≡ record { id = id; task = it.task } = ap (λ n. record { id = n; task = it.task }) is_first.has_key in
+    rw (items-parts slots place (slot_with it) is_first.waits)
+    (rw same (sym (there-awaited id it.task (items_of (take place slots)) (items_of (drop (place + 1) slots)))))
 
--- ---- whether one has a number
+-- ---- which one has a number
+
+pub awaited-by : (number place id : ℕ) (slots : List SlotView) → IsFirstOf number_of_waiting number place slots
+    → IsSomeAnd (slice_get slots place) (λ slot. id ≡ slot.id) → IsAwaitedBy number id (items_of slots)
+awaited-by number place id slots is_first there = record {
+  it = is_first.it;
+  stands = stands-there slots place is_first.it is_first.waits;
+  numbered = is_first.has_key;
+  waits = let is = rw is_first.waits at there in sym is;
+}
 
 pub has-where : (number : ℕ) (items : List WaitingView) (found : Option ℕ)
     → MatchOption found (All (λ (it : WaitingView). it.task.number ≢ number) items) (λ id. IsAwaitedBy number id items)

@@ -5,6 +5,7 @@ use Rattle.std.proofs.lemmas.List.{append-nil, length-append}
 use Rattle.std.proofs.lemmas.List.Elements.{All-cons, All-nil, All-append}
 use Rattle.sip_resolver.proofs.Waiters.{all-without, for-first, without-first}
 use Rattle.sip_resolver.specs.Ends.{EndsMore}
+use Rattle.sip_resolver.specs.Idle.{HasMore}
 use Rattle.sip_resolver.specs.Outcomes.{Ended}
 use Rattle.sip_resolver.specs.Requests.{IsWithoutWaitingFor, RequestsView, requests_of, waiting_for, waiting_without}
 use Rattle.sip_resolver.specs.Settles.{Settled, SettlesAll}
@@ -137,6 +138,10 @@ module _ {goes : TaskView → TaskView → Type 0} {kind : Outcome → Type 0} w
       All-append (λ (it : Ended). kind it.outcome) ended (last ∷ []) (are-of-kind before ready ended so)
       (All-cons (λ (it : Ended). kind it.outcome) last [] end (All-nil (λ (it : Ended). kind it.outcome)))
 
+  -- those that go on do so behind all others
+  pub settles-more : (id : ℕ) (old new : RequestsView) → SettlesAll id goes kind old new → HasMore old.ready new.ready
+  settles-more id old new it = (it.ready, ap (λ (v : RequestsView). v.ready) it.new_is)
+
   -- those that ended are of the kind
   pub settles-ends : (id : ℕ) (old new : RequestsView) → SettlesAll id goes kind old new → EndsMore kind old.ended new.ended
   settles-ends id old new it = record {
@@ -163,3 +168,15 @@ module _ {goes : TaskView → TaskView → Type 0} {kind : Outcome → Type 0} w
       settled = settled-as (waiting_for id old.waiting) it.ready it.ended it.settled;
       new_is = it.new_is;
     }
+
+-- ---- more that can go on
+
+pub more-not : (ready : List TaskView) → HasMore ready ready
+more-not ready = ([], sym (append-nil ready))
+
+pub more-through : (old middle new : List TaskView) → HasMore old middle → HasMore middle new → HasMore old new
+more-through old middle new (more, first) (others, second) =
+    (more ++ others, second ∙ ap (λ l. l ++ others) first ∙ append_assoc old more others)
+
+pub more-still : (old middle new : List TaskView) → HasMore old middle → new ≡ middle → HasMore old new
+more-still old middle new (more, first) same = (more, same ∙ first)

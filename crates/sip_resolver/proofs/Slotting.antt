@@ -1,16 +1,16 @@
 -- Slots, and the requests that wait in them.
-use Rattle.std.proofs.Common.{◌≡◌, ◌≢◌, ◌⊎◌, nat_eq, ℕ, suc, zero, ◌<◌, ◌≤◌, ◌+◌, Bool, true, false, if◌then◌else◌, inl, inr, List, [], ◌∷◌, ◌++◌, Some, None, Option, length, set, take, drop, refl, sym, ap, ◌∙◌, drop-cons, add-one, eq-eqb, arith, rules}
-use Rattle.std.specs.List.{All, cons_option, filter, filter_map, slice_get, sum_by}
-use Rattle.std.specs.Option.{is_some}
-use Rattle.std.proofs.lemmas.Bool.{and_parts, cases_eq}
-use Rattle.std.proofs.lemmas.List.{append-nil, set_split, take-append-drop, take_more}
-use Rattle.std.proofs.lemmas.List.Elements.{All-push, Contains-append_right, filter_map-append}
+use Rattle.std.proofs.Common.{◌≡◌, ◌≢◌, nat_eq, ℕ, suc, zero, ◌<◌, ◌≤◌, ◌+◌, Bool, true, false, if◌then◌else◌, List, [], ◌∷◌, ◌++◌, Some, None, Option, length, map, set, take, drop, refl, sym, ap, ◌∙◌, drop-cons, add-one, arith}
+use Rattle.std.specs.List.{Contains, cons_option, filter, filter_map, slice_get, sum_by}
+use Rattle.std.specs.Option.{MatchOption, is_some, option_map}
+use Rattle.std.proofs.lemmas.List.{length-map, map-append, map-set, set_split, take-append-drop, take_all, take_more}
+use Rattle.std.proofs.lemmas.List.Elements.{All-cons, All-nil, Contains-append_right, filter_map-append}
 use Rattle.std.proofs.lemmas.List.Sums.{sum_by-cons, sum_by-le}
-use Rattle.std.proofs.lemmas.Option.{get_or_from_slice_get, same_Some, slice_get_within}
+use Rattle.std.proofs.lemmas.Option.{get_or_from_slice_get, slice_get_within}
 use Rattle.sip_resolver.specs.Earliest.{ends_at}
-use Rattle.sip_resolver.specs.Requests.{IsAwaitedBy, waiting_for}
+use Rattle.sip_resolver.specs.Queues.{Queued}
+use Rattle.sip_resolver.specs.SlotIndexes.{HasKey, IsFirstWith, NoneBefore}
 use Rattle.sip_resolver.specs.Tasks.{TaskView, WaitingView}
-use Rattle.sip_resolver.specs.WaitingQueues.{IsFirst, NoneBefore, SlotView, WaitsAt, is_numbered, is_slot_for, items_of, until_in, waiting_in}
+use Rattle.sip_resolver.specs.WaitingQueues.{HaveOther, IsBy, IsFirst, IsFirstOf, IsTakenSlot, SlotView, items_of, key_at, slot_with, until_in, waiting_in, waiting_of}
 
 -- a slot that its request left
 abbrev pub emptied : ℕ → SlotView
@@ -49,45 +49,19 @@ module _ (slots : List SlotView) (place : ℕ) (slot : SlotView) (there : slice_
       ∙ filter_map-append waiting_in (take place slots) (emptied id ∷ drop (suc place) slots)
       ∙ rw add-one refl
 
-  -- ---- a search for an id
+  -- ---- who waits in it
 
-  slot-is : (id : ℕ) (task : Option TaskView) → slot.id ≡ id → slot.task ≡ task → slot ≡ record { id = id; task = task }
-  slot-is id task same is =
-      ap (λ n. record { id = n; task = slot.task }) same ∙ ap (λ its. record { id = id; task = its }) is
-
-  waits-by : (id : ℕ) (task : Option TaskView) → slot.task ≡ task → slot.id ≡ id → is_some slot.task ≡ true → WaitsAt slots place id
-  waits-by id None is same some = absurd (let no = rw is at some in cc)
-  waits-by id (Some task) is same some = (task, there ∙ ap (λ (it : SlotView). Some it) (slot-is id (Some task) same is))
-
-  pub waits-here : is_some slot.task ≡ true → WaitsAt slots place slot.id
-  waits-here some = waits-by slot.id slot.task refl refl some
-
-  pub waits-for : (id : ℕ) → is_slot_for id slot ≡ true → WaitsAt slots place id
-  waits-for id mine =
-      let both = and_parts (nat_eq slot.id id) (is_some slot.task) mine in
-      let is = both.0 in
-      let same : slot.id ≡ id = search rules in
-      waits-by id slot.task refl same both.1
-
-  is-for : (id : ℕ) (task : TaskView) → slot ≡ record { id = id; task = Some task } → is_slot_for id slot ≡ true
-  is-for id task same = rw same (rw (eq-eqb id id refl) refl)
-
-  further-by : (id later : ℕ) (task : TaskView) → slice_get slots later ≡ Some (record { id = id; task = Some task })
-      → (is_slot_for id slot ≡ true → ⊥) → place ≤ later → (later ≡ place) ⊎ (later ≡ place → ⊥) → place + 1 ≤ later
-  further-by id later task is other behind (inl at) =
-      let its : slice_get slots place ≡ Some (record { id = id; task = Some task }) = rw (← at) is in
-      let same : slot ≡ record { id = id; task = Some task } = same_Some slot _ (sym there ∙ its) in
-      absurd (other (is-for id task same))
-  further-by id later task is other behind (inr apart) = omega (arith, behind, apart)
-
-  pub none-further : (id : ℕ) → (is_slot_for id slot ≡ true → ⊥) → NoneBefore id place slots → NoneBefore id (place + 1) slots
-  none-further id other none = λ later (task, is).
-      further-by id later task is other (none later (task, is)) (cases_eq later place)
+  taken-by : (task : Option TaskView) → slot.task ≡ task → is_some slot.task ≡ true → IsTakenSlot place slots
+  taken-by None is some = absurd (let no = rw is at some in cc)
+  taken-by (Some task) is some = (
+    record { id = slot.id; task = task },
+    there ∙ ap (λ (its : Option TaskView). Some (record { id = slot.id; task = its })) is,
+  )
 
   -- ---- a search for the first one that waits
 
   pub first-here : items_of (take place slots) ≡ [] → is_some slot.task ≡ true → IsFirst place slots
-  first-here none some = record { id = slot.id; waits = waits-here some; none_before = none }
+  first-here none some = record { waits = taken-by slot.task refl some; none_before = none }
 
   nothing-in : (task : Option TaskView) → slot.task ≡ task → (is_some slot.task ≡ true → ⊥) → items_of (slot ∷ []) ≡ []
   nothing-in None is none = rw is refl
@@ -96,40 +70,13 @@ module _ (slots : List SlotView) (place : ℕ) (slot : SlotView) (there : slice_
   pub none-to : items_of (take place slots) ≡ [] → (is_some slot.task ≡ true → ⊥) → items_of (take (place + 1) slots) ≡ []
   none-to before none = items-to ∙ rw (before, nothing-in slot.task refl none) refl
 
-  -- ---- a search for a number
-
-  module _ (number : ℕ) where
-    abbrev IsOther : WaitingView → Type 0
-    IsOther it = it.task.number ≢ number
-
-    others-by : (task : Option TaskView) → slot.task ≡ task → (is_numbered number task ≡ true → ⊥)
-        → All IsOther (items_of (take place slots)) → All IsOther (items_of (take place slots) ++ items_of (slot ∷ []))
-    others-by None is other all = rw (is, append-nil (items_of (take place slots))) all
-    others-by (Some task) is other all =
-        rw is (All-push IsOther (items_of (take place slots)) (record { id = slot.id; task = task }) all
-        (λ same. other (eq-eqb task.number number same)))
-
-    pub others-to : (is_numbered number slot.task ≡ true → ⊥) → All IsOther (items_of (take place slots))
-        → All IsOther (items_of (take (place + 1) slots))
-    others-to other all = rw items-to (others-by slot.task refl other all)
-
-    numbered-by : (task : Option TaskView) → slot.task ≡ task → is_numbered number task ≡ true
-        → IsAwaitedBy number slot.id (items_of slots)
-    numbered-by None is mine = absurd cc
-    numbered-by (Some task) is mine =
-        let it : WaitingView = record { id = slot.id; task = task } in
-        let rest = items_of (drop (place + 1) slots) in
-        let same : task.number ≡ number = search rules in
-        let all : items_of slots ≡ items_of (take place slots) ++ it ∷ rest = items-parts ∙ rw is refl in
-        record {
-          it = it;
-          stands = rw all (Contains-append_right (items_of (take place slots)) (it ∷ rest) it (0, omega arith, refl));
-          numbered = same;
-          waits = refl;
-        }
-
-    pub numbered-here : is_numbered number slot.task ≡ true → IsAwaitedBy number slot.id (items_of slots)
-    numbered-here mine = numbered-by slot.task refl mine
+-- a request that waits in a slot is among those that wait
+pub stands-there : (slots : List SlotView) (place : ℕ) (it : WaitingView) → slice_get slots place ≡ Some (slot_with it)
+    → Contains (items_of slots) it
+stands-there slots place it waits =
+    let rest = items_of (drop (place + 1) slots) in
+    rw (items-parts slots place (slot_with it) waits)
+    (Contains-append_right (items_of (take place slots)) (it ∷ rest) it (0, omega arith, refl))
 
 -- ---- none waits
 
@@ -147,30 +94,103 @@ none-still (slot ∷ slots) (suc head) (suc place) id none =
     let both = none-of-cons (waiting_in slot) (items_of (take head slots)) none in
     rw both.0 (none-still slots head place id both.1)
 
-module _ (id : ℕ) where
-  -- a slot in which none waits for the reply
-  passes-by : (other : ℕ) (task : TaskView) (slots : List SlotView) (n : ℕ) (is : Bool) → nat_eq other id ≡ is
-      → NoneBefore id (suc n) (record { id = other; task = Some task } ∷ slots)
-      → waiting_for id (record { id = other; task = task } ∷ items_of (take n slots)) ≡ waiting_for id (items_of (take n slots))
-  passes-by other task slots n true same none =
-      let its : other ≡ id = search rules in
-      let early = none 0 (task, rw its refl) in absurd (omega (arith, early))
-  passes-by other task slots n false same none = rw same refl
+-- ---- a search by a key
 
-  passes : (slot : SlotView) (task : Option TaskView) → slot.task ≡ task → (slots : List SlotView) (n : ℕ)
-      → NoneBefore id (suc n) (slot ∷ slots)
-      → waiting_for id (items_of (slot ∷ take n slots)) ≡ waiting_for id (items_of (take n slots))
-  passes slot None is slots n none = rw is refl
-  passes slot (Some task) is slots n none =
-      let here : slot ≡ record { id = slot.id; task = Some task } = ap (λ its. record { id = slot.id; task = its }) is in
-      rw is (passes-by slot.id task slots n (nat_eq slot.id id) refl (rw here at none))
+module _ (key_of : WaitingView → ℕ) (key : ℕ) where
+  has-by : (id : ℕ) (task : Option TaskView) → Some (option_map key_of (waiting_of id task)) ≡ Some (Some key)
+      → (it : WaitingView) × (Some (record { id = id; task = task }) ≡ Some (slot_with it)) × (key_of it ≡ key)
+  has-by id None is = absurd cc
+  has-by id (Some task) is = (record { id = id; task = task }, refl, cc)
 
-  pub none-for : (slots : List SlotView) (n : ℕ) → NoneBefore id n slots → waiting_for id (items_of (take n slots)) ≡ []
-  none-for slots zero none = refl
-  none-for [] (suc n) none = refl
-  none-for (slot ∷ slots) (suc n) none =
-      passes slot slot.task refl slots n none
-      ∙ none-for slots n (λ later waits. let more = none (suc later) waits in omega (arith, more))
+  has-there : (slots : List SlotView) (place : ℕ) → HasKey (map (key_at key_of) slots) place key
+      → (it : WaitingView) × (slice_get slots place ≡ Some (slot_with it)) × (key_of it ≡ key)
+  has-there [] place is = absurd cc
+  has-there (slot ∷ slots) zero is = has-by slot.id slot.task is
+  has-there (slot ∷ slots) (suc place) is = has-there slots place is
+
+  others-by : (id : ℕ) (task : Option TaskView) (slots : List SlotView) (n : ℕ)
+      → NoneBefore key (suc n) (map (key_at key_of) (record { id = id; task = task } ∷ slots))
+      → HaveOther key_of key (items_of (take n slots)) → HaveOther key_of key (items_of (record { id = id; task = task } ∷ take n slots))
+  others-by id None slots n none rest = rest
+  others-by id (Some task) slots n none rest =
+      All-cons (λ it. key_of it ≢ key) (record { id = id; task = task }) (items_of (take n slots))
+      (λ same. let early = none 0 (ap (λ k. Some (Some k)) same) in omega (arith, early)) rest
+
+  -- none has the key in front of the first one that the index finds
+  others-before : (slots : List SlotView) (n : ℕ) → NoneBefore key n (map (key_at key_of) slots)
+      → HaveOther key_of key (items_of (take n slots))
+  others-before slots zero none = All-nil (λ it. key_of it ≢ key)
+  others-before [] (suc n) none = All-nil (λ it. key_of it ≢ key)
+  others-before (slot ∷ slots) (suc n) none =
+      others-by slot.id slot.task slots n none
+      (others-before slots n (λ later has. let more = none (suc later) has in omega (arith, more)))
+
+  -- what the index finds
+  module _ (slots : Queued SlotView) (index : Queued (Option ℕ)) (by : IsBy key_of slots index) where
+    keys-are : index.items ≡ map (key_at key_of) slots.items
+    keys-are = ap (λ (q : Queued (Option ℕ)). q.items) by
+
+    first-there : (place : ℕ) → HasKey (map (key_at key_of) slots.items) place key
+        → NoneBefore key place (map (key_at key_of) slots.items) → IsFirstOf key_of key place slots.items
+    first-there place has none = step (has-there slots.items place has)
+      where
+        step : (it : WaitingView) × (slice_get slots.items place ≡ Some (slot_with it)) × (key_of it ≡ key)
+            → IsFirstOf key_of key place slots.items
+        step (it, waits, same) =
+            record { it = it; waits = waits; has_key = same; none_before = others-before slots.items place none }
+
+    pub found-by : (found : Option ℕ)
+        → MatchOption found (NoneBefore key (length index.items) index.items) (λ place. IsFirstWith key place index.items)
+        → MatchOption found (HaveOther key_of key (items_of slots.items)) (λ place. IsFirstOf key_of key place slots.items)
+    found-by None none =
+        let all : NoneBefore key (length (map (key_at key_of) slots.items)) (map (key_at key_of) slots.items) = rw keys-are at none in
+        let long = length-map slots.items (key_at key_of) in
+        rw (take_all (length slots.items) slots.items (omega arith)) at
+        (others-before slots.items (length slots.items) (λ later has. let behind = all later has in omega (arith, behind, long)))
+    found-by (Some place) (has, none) = first-there place (rw keys-are at has) (rw keys-are at none)
+
+-- ---- the indexes, as slots come and become empty
+
+module _ (key_of : WaitingView → ℕ) (slots : Queued SlotView) (index : Queued (Option ℕ)) (by : IsBy key_of slots index) where
+  -- there is room for one more
+  pub room-too : length slots.items < slots.room → length index.items < index.room
+  room-too less =
+      let long = length-map slots.items (key_at key_of) in rw by (omega (arith, less, long))
+
+  pub within-too : (place : ℕ) → place < length slots.items → place < length index.items
+  within-too place within =
+      let long = length-map slots.items (key_at key_of) in rw by (omega (arith, within, long))
+
+  -- one more comes
+  pub by-more : (it : WaitingView) (more : Queued SlotView) (new : Queued (Option ℕ))
+      → more ≡ record slots { items = slots.items ++ slot_with it ∷ [] }
+      → new ≡ record index { items = index.items ++ Some (key_of it) ∷ [] } → IsBy key_of more new
+  by-more it more new is put =
+      put ∙ rw (by, is, map-append (key_at key_of) slots.items (slot_with it ∷ [])) refl
+
+  -- one is taken out
+  pub by-less : (place id : ℕ) (left : Queued SlotView) (new : Queued (Option ℕ))
+      → left ≡ record slots { items = set slots.items place (emptied id) }
+      → new ≡ record index { items = set index.items place None } → IsBy key_of left new
+  by-less place id left new is put = put ∙ rw (by, is, map-set (key_at key_of) slots.items place (emptied id)) refl
+
+  -- the empty slots are let go
+  pub by-kept : (kept : Queued SlotView) (new : Queued (Option ℕ))
+      → kept ≡ record slots { items = filter (λ slot. is_some slot.task) slots.items }
+      → new ≡ record index { items = filter (λ key. is_some key) index.items } → IsBy key_of kept new
+  by-kept kept new is put = put ∙ rw (by, is, keys-kept slots.items) refl
+    where
+      keys-by : (id : ℕ) (task : Option TaskView) (slots : List SlotView)
+          → filter (λ key. is_some key) (map (key_at key_of) slots) ≡ map (key_at key_of) (filter (λ slot. is_some slot.task) slots)
+          → filter (λ key. is_some key) (map (key_at key_of) (record { id = id; task = task } ∷ slots))
+          ≡ map (key_at key_of) (filter (λ slot. is_some slot.task) (record { id = id; task = task } ∷ slots))
+      keys-by id None slots same = same
+      keys-by id (Some task) slots same = ap (λ keys. Some (key_of (record { id = id; task = task })) ∷ keys) same
+
+      keys-kept : (slots : List SlotView)
+          → filter (λ key. is_some key) (map (key_at key_of) slots) ≡ map (key_at key_of) (filter (λ slot. is_some slot.task) slots)
+      keys-kept [] = refl
+      keys-kept (slot ∷ slots) = keys-by slot.id slot.task slots (keys-kept slots)
 
 -- ---- the empty slots are let go
 

@@ -7,9 +7,9 @@ use Rattle.std.proofs.lemmas.Option.{get_or_from_slice_get}
 use Rattle.std.proofs.Math.Seq.{get_or-append_seam}
 use Rattle.sip_resolver.specs.Cancels.{is_awaited}
 use Rattle.sip_resolver.specs.Queues.{Queued}
-use Rattle.sip_resolver.specs.Requests.{IsWithoutWaitingFor, RequestsView, count_of, requests_of, waiting_for, waiting_without, waits_for, waits_for_other}
+use Rattle.sip_resolver.specs.Requests.{IsWithoutNumbered, IsWithoutWaitingFor, RequestsView, count_of, requests_of, waiting_for, waiting_without, waits_for, waits_for_other}
 use Rattle.sip_resolver.specs.Tasks.{TaskView, WaitingView}
-use Rattle.sip_resolver.specs.WaitingQueues.{IsWithoutFirstFor}
+use Rattle.sip_resolver.specs.WaitingQueues.{IsWithoutFirstFor, IsWithoutFirstNumbered}
 
 module _ (id : ℕ) where
   abbrev waiter : TaskView → WaitingView
@@ -51,6 +51,13 @@ module _ (id : ℕ) where
       → (nat_eq x.id id ≡ false) × (waiting_for id xs ≡ [])
   none-by x xs true is none = absurd (let no = rw is at none in cc)
   none-by x xs false is none = (is, rw is at none)
+
+  pub none-of-id : (waiting : List WaitingView) → All (λ it. it.id ≢ id) waiting → waiting_for id waiting ≡ []
+  none-of-id [] others = refl
+  none-of-id (x ∷ xs) others =
+      let first = not-for-by x (nat_eq x.id id) refl (All-head (λ (it : WaitingView). it.id ≢ id) x xs others) in
+      filter-append (waits_for id) (x ∷ []) xs
+      ∙ rw (first, none-of-id xs (All-tail (λ (it : WaitingView). it.id ≢ id) x xs others)) refl
 
   pub all-without : (waiting : List WaitingView) → waiting_for id waiting ≡ [] → waiting_without id waiting ≡ waiting
   all-without [] none = refl
@@ -115,3 +122,22 @@ module _ (id : ℕ) (old new : RequestsView) (it : WaitingView) (was now : Queue
             let left = length-append out.first out.later in
             rw others (omega (arith, few, all, left));
       }
+
+-- one of a number is taken out from its place
+pub numbered-out : (number : ℕ) (old new : RequestsView) (it : WaitingView) (was now : Queued WaitingView)
+    → IsWithoutFirstNumbered number it was now → old.waiting ≡ was.items → new ≡ record old { waiting = now.items }
+    → count_of old ≤ old.limit → IsWithoutNumbered number it old new
+numbered-out number old new it was now out same is few =
+    let others : new ≡ record old { waiting = out.first ++ out.later } =
+    is ∙ ap (λ (q : Queued WaitingView). requests_of old.ready old.held q.items old.ended old.limit) out.left in
+    record {
+      first = out.first;
+      later = out.later;
+      was = same ∙ out.was;
+      has_number = out.has_number;
+      others = others;
+      room =
+          let all = ap length same ∙ ap length out.was ∙ length-append out.first (it ∷ out.later) in
+          let left = length-append out.first out.later in
+          rw others (omega (arith, few, all, left));
+    }

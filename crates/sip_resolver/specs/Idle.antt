@@ -1,12 +1,14 @@
 -- When nothing is left to send or to give up at a moment.
-use Rattle.std.specs.Prelude.{◌≡◌, ⊤, ℕ, ◌+◌, ◌-◌, ◌^◌, ◌<◌, ◌⊎◌, List, [], length, IsSome}
+use Rattle.std.specs.Prelude.{◌≡◌, ⊤, ℕ, ◌+◌, ◌-◌, ◌^◌, ◌<◌, ◌⊎◌, List, [], ◌++◌, Option, Some, None, length, IsSome}
 use Rattle.std.specs.List.{All}
+use Rattle.dns_message.specs.declared.question.Question.{Question}
 use Rattle.dns_queries.specs.Tickets.{Asking, Ticket, ticket_of}
 use Rattle.dns_queries.specs.declared.refusal.AskRefusal.{AskRefusal}
 use Rattle.dns_queries.specs.declared.refusal.AskRefusal.TheVariants.{IdTaken, Full, Spent, Memory}
-use Rattle.sip_resolver.specs.Questions.{QuestionsView}
+use Rattle.sip_resolver.specs.Questions.{QuestionsView, asked_over}
 use Rattle.sip_resolver.specs.Requests.{RequestsView}
-use Rattle.sip_resolver.specs.Tasks.{WaitingView}
+use Rattle.sip_resolver.specs.Tasks.{TaskView, WaitingView}
+use Rattle.sip_resolver.specs.declared.transmit.DnsTransport.{DnsTransport}
 
 -- ---- why a question can't be asked
 
@@ -70,6 +72,29 @@ AreIn tickets others waiting = All (IsIn tickets others) waiting
 abbrev pub AreAwaited : RequestsView → QuestionsView → Type 0
 AreAwaited requests questions =
     AreIn questions.datagrams.tickets questions.streams.tickets requests.waiting
+
+-- ---- whose turn it is
+
+-- these requests, in their order, and more behind them
+abbrev pub HasMore : List TaskView → List TaskView → Type 0
+HasMore old new = (more : List TaskView) × (new ≡ old ++ more)
+
+-- the questions that were out before one was asked at this moment and sent under this id, if one
+-- was
+abbrev pub IsBefore : ℕ → Option ℕ → QuestionsView → QuestionsView → Type 0
+IsBefore asked None before after = after ≡ before
+IsBefore asked (Some id) before after =
+    (over : DnsTransport) × (question : Question)
+    × (after ≡ asked_over over id question asked before)
+
+-- Requests that are held go on before those that can go on: where one of the latter has gone on, no
+-- request is held, or no other question could be asked before the one that was sent, if one was.
+pub data IsTurn {I : Type 0} (draws : I → ℕ → I → Type 0) (asked : ℕ) (sent : Option ℕ)
+    (old new : RequestsView) (questions : QuestionsView) : Type 0 where
+  none_went_on : HasMore old.ready new.ready → IsTurn draws asked sent old new questions
+  none_held : new.held ≡ [] → IsTurn draws asked sent old new questions
+  no_room : (before : QuestionsView) → IsBefore asked sent before questions
+      → CannotAsk draws before → IsTurn draws asked sent old new questions
 
 -- ---- nothing is left to do
 

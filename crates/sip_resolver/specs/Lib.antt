@@ -9,6 +9,7 @@ pub mod Queues
 pub mod Earliest
 pub mod NumberFilters
 pub mod Requests
+pub mod SlotIndexes
 pub mod WaitingQueues
 pub mod Cancels
 pub mod Restarts

@@ -107,6 +107,16 @@ pub record IsWithoutWaitingFor (id : ℕ) (task : TaskView) (old new : RequestsV
   pub others : new ≡ record old { waiting = first ++ later }
   pub room : count_of new < new.limit
 
+-- one of this number is taken out from its place
+pub record IsWithoutNumbered (number : ℕ) (waiting : WaitingView) (old new : RequestsView) : Type 0
+  where
+    pub first : List WaitingView
+    pub later : List WaitingView
+    pub was : old.waiting ≡ first ++ waiting ∷ later
+    pub has_number : waiting.task.number ≡ number
+    pub others : new ≡ record old { waiting = first ++ later }
+    pub room : count_of new < new.limit
+
 pub record IsWithoutEnded (ended : Ended) (old new : RequestsView) : Type 0 where
   pub first : old.ended ≡ ended ∷ new.ended
   pub others : new ≡ record old { ended = new.ended }

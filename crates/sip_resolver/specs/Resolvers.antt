@@ -19,11 +19,11 @@ use Rattle.sip_selection.specs.declared.request.Request.{Request}
 use Rattle.sip_resolver.specs.Cancels.{questions_left}
 use Rattle.sip_resolver.specs.Ends.{EndsMore, IsByClosing, IsByReply, IsBySilence}
 use Rattle.sip_resolver.specs.Expiries.{AreExpired, HaveTime}
-use Rattle.sip_resolver.specs.Idle.{AreAwaited, IsIdle}
+use Rattle.sip_resolver.specs.Idle.{AreAwaited, IsIdle, IsTurn}
 use Rattle.sip_resolver.specs.Outcomes.{Ended}
 use Rattle.sip_resolver.specs.Questions.{AreDistinct, IsScheduled, QuestionsView, asking_over, closed_over, none_out, schedule_of}
 use Rattle.sip_resolver.specs.Requests.{AreSame, RequestsView, Stand, count_of, numbers_of, requests_of}
-use Rattle.sip_resolver.specs.Sends.{AreSpaced, IsInTime, Sends, tickets_of}
+use Rattle.sip_resolver.specs.Sends.{AreSpaced, IsInTime, Sends, sent_id, tickets_of}
 use Rattle.sip_resolver.specs.Settles.{GoesByReply, GoesOverStream, NeedsOther, SettlesAll}
 use Rattle.sip_resolver.specs.Tasks.{TaskView}
 use Rattle.sip_resolver.specs.Works.{Hands}
@@ -183,9 +183,10 @@ pub record Expires (now : ℕ) (old new : ResolverView) : Type 0 where
 -- What a poll leaves. First each request ends whose time is over. The same requests are inside, and
 -- what holds of them still holds. A request with time left ends by its choice, because a question
 -- was in vain, or because memory was refused. What is sent are the octets of a question that is
--- out, under an id of its own. Where nothing is sent, nothing is left to do at this moment. What is
--- due is due by the first moment; what is sent waits until at least the whole wait of the schedule
--- after the second one. All are sent by one schedule.
+-- out, under an id of its own. Requests that are held go on before those that can go on. Where
+-- nothing is sent, nothing is left to do at this moment. What is due is due by the first moment;
+-- what is sent waits until at least the whole wait of the schedule after the second one. All are
+-- sent by one schedule.
 pub record Polls (gives : List ℕ → Type 0) (shows : ℕ → Type 0) {I : Type 0}
     (draws : I → ℕ → I → Type 0) (seat : SeatView) (now asked : ℕ) (old new : ResolverView)
     (result : Option Transmit) : Type 0 where
@@ -197,6 +198,7 @@ pub record Polls (gives : List ℕ → Type 0) (shows : ℕ → Type 0) {I : Typ
   pub ends : EndsMore (IsInTime (schedule_of middle.questions) (tickets_of middle.questions) now)
       middle.requests.ended new.requests.ended
   pub sends : Sends now asked new.requests.waiting middle.questions new.questions result
+  pub turn : IsTurn draws asked (sent_id result) middle.requests new.requests new.questions
   pub spaced : AreSpaced asked old.questions new.questions
   pub idle : IfNone result (IsIdle draws now new.requests new.questions)
   pub awaited : AreAwaited old.requests old.questions → AreAwaited new.requests new.questions

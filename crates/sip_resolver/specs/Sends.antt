@@ -98,6 +98,11 @@ pub record SendsAfter (now asked id : ℕ) (waiting : List WaitingView) (old new
   pub gives_up : GivesUpBoth now old middle
   pub sends : SendsOne now asked id waiting middle new
 
+-- the id of what is sent, if something is
+abbrev pub sent_id : Option Transmit → Option ℕ
+sent_id None = None
+sent_id (Some transmit) = Some transmit.id
+
 -- The message is that of the one question that is sent, and says how often it was sent. Where there
 -- is none, none is sent, and none is counted as sent.
 abbrev pub Sends : ℕ → ℕ → List WaitingView → QuestionsView → QuestionsView → Option Transmit

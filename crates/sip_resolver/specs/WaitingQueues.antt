@@ -1,9 +1,9 @@
 -- The requests that wait for replies, in slots. No public clause cites this module.
-use Rattle.std.specs.Prelude.{◌≡◌, ◌==◌, ◌&&◌, ◌<◌, ◌≤◌, ◌+◌, ℕ, Bool, false, List, [], ◌∷◌, ◌++◌, Option, Some, None, bit_and, length, map, slice_get, slice_index_or, slice_set, take}
+use Rattle.std.specs.Prelude.{◌≡◌, ◌≢◌, ◌≤◌, ℕ, List, [], ◌∷◌, ◌++◌, Option, Some, None, length, map, slice_get, slice_set, take}
 use Rattle.std.specs.List.{All, filter_map}
-use Rattle.std.specs.Option.{is_some}
+use Rattle.std.specs.Option.{option_map}
 use Rattle.sip_resolver.specs.Queues.{Queued}
-use Rattle.sip_resolver.specs.Requests.{waiting_for}
+use Rattle.sip_resolver.specs.Requests.{number_of_waiting, waiting_for}
 use Rattle.sip_resolver.specs.Tasks.{TaskView, WaitingView}
 
 -- ---- the slots
@@ -19,11 +19,6 @@ abbrev pub until_in : Option TaskView → Option ℕ
 until_in None = None
 until_in (Some task) = task.until
 
--- there is a request, and it has this number
-abbrev pub is_numbered : ℕ → Option TaskView → Bool
-is_numbered number None = false
-is_numbered number (Some task) = task.number == number
-
 -- the request that waits for the reply to the message of this id, if there is one
 abbrev pub waiting_of : ℕ → Option TaskView → Option WaitingView
 waiting_of id None = None
@@ -37,24 +32,30 @@ waiting_in slot = waiting_of slot.id slot.task
 abbrev pub items_of : List SlotView → List WaitingView
 items_of slots = filter_map waiting_in slots
 
--- a request waits in this slot for the reply to the message of this id
-abbrev pub is_slot_for : ℕ → SlotView → Bool
-is_slot_for id slot = slot.id == id && is_some slot.task
+-- a slot in which this request waits
+abbrev pub slot_with : WaitingView → SlotView
+slot_with it = record { id = it.id; task = Some it.task }
 
--- a request waits in the slot at this place for the reply to the message of this id
-abbrev pub WaitsAt : List SlotView → ℕ → ℕ → Type 0
-WaitsAt slots place id =
-    (task : TaskView) × (slice_get slots place ≡ Some (record { id = id; task = Some task }))
-
--- none waits in front of this place for the reply to the message of this id
-abbrev pub NoneBefore : ℕ → ℕ → List SlotView → Type 0
-NoneBefore id place slots = (later : ℕ) → WaitsAt slots later id → place ≤ later
+-- a request waits in the slot at this place
+abbrev pub IsTakenSlot : ℕ → List SlotView → Type 0
+IsTakenSlot place slots = (it : WaitingView) × (slice_get slots place ≡ Some (slot_with it))
 
 -- a request waits in the slot at this place, and none in front of it
 pub record IsFirst (place : ℕ) (slots : List SlotView) : Type 0 where
-  pub id : ℕ
-  pub waits : WaitsAt slots place id
+  pub waits : IsTakenSlot place slots
   pub none_before : items_of (take place slots) ≡ []
+
+-- none of these requests has this key
+abbrev pub HaveOther : (WaitingView → ℕ) → ℕ → List WaitingView → Type 0
+HaveOther key_of key waiting = All (λ it. key_of it ≢ key) waiting
+
+-- the request that waits in the slot at this place is the first one that has this key
+pub record IsFirstOf (key_of : WaitingView → ℕ) (key place : ℕ) (slots : List SlotView) : Type 0
+  where
+    pub it : WaitingView
+    pub waits : slice_get slots place ≡ Some (slot_with it)
+    pub has_key : key_of it ≡ key
+    pub none_before : HaveOther key_of key (items_of (take place slots))
 
 -- the request that waits in the slot at this place is taken out, and leaves the slot empty
 pub record IsTakenAt (place : ℕ) (waiting : WaitingView) (old new : Queued SlotView) : Type 0 where
@@ -63,49 +64,25 @@ pub record IsTakenAt (place : ℕ) (waiting : WaitingView) (old new : Queued Slo
   pub left : new
       ≡ record old { items = slice_set old.items place (record { id = waiting.id; task = None }) }
 
--- ---- the index of the slots
+-- ---- the indexes of the slots
 
--- Of each class of ids a place that no request of it waits in front of, and the place behind its
--- last slot. By the place behind each slot a place that no later slot of its class stands in front
--- of. And the bits of an id that are its class.
-pub record IndexView : Type 0 where
-  pub firsts : List ℕ
-  pub ends : List ℕ
-  pub nexts : List ℕ
-  pub mask : ℕ
+-- the id of the message for whose reply a request waits
+abbrev pub id_of : WaitingView → ℕ
+id_of it = it.id
 
--- the class of an id
-abbrev pub class_of : ℕ → IndexView → ℕ
-class_of id it = bit_and id it.mask
+-- the key that the request has which waits in a slot, if one does
+abbrev pub key_at : (WaitingView → ℕ) → SlotView → Option ℕ
+key_at key_of slot = option_map key_of (waiting_in slot)
 
--- a place that no request of the class of this id waits in front of
-abbrev pub first_of : ℕ → IndexView → ℕ
-first_of id it = slice_index_or it.firsts (class_of id it) 0
+-- an index finds the requests that wait in these slots by this key
+abbrev pub IsBy : (WaitingView → ℕ) → Queued SlotView → Queued (Option ℕ) → Type 0
+IsBy key_of slots index =
+    index ≡ record { items = map (key_at key_of) slots.items; room = slots.room }
 
--- the place behind the last slot of the class of this id, or 0 where it has none
-abbrev pub end_of : ℕ → IndexView → ℕ
-end_of id it = slice_index_or it.ends (class_of id it) 0
-
--- the slots that have these ids are linked, each with the next one of its class
-pub record AreLinked (ids : List ℕ) (it : IndexView) : Type 0 where
-  pub within : All (λ end. end ≤ length ids) it.ends
-  pub ends : (place id : ℕ) → slice_get ids place ≡ Some id → place < end_of id it
-  pub lasts : (id last : ℕ) → end_of id it ≡ last + 1
-      → (other : ℕ) × (slice_get ids last ≡ Some other) × (class_of other it ≡ class_of id it)
-  pub nexts : (place later id other : ℕ) → place < later → slice_get ids place ≡ Some id
-      → slice_get ids later ≡ Some other → class_of id it ≡ class_of other it
-      → slice_index_or it.nexts (place + 1) 0 ≤ later
-
--- the slots are linked, and none waits in front of the first place of its class
-pub record IsIndexOf (slots : List SlotView) (it : IndexView) : Type 0 where
-  pub linked : AreLinked (map (λ slot. slot.id) slots) it
-  pub firsts : (id : ℕ) → NoneBefore id (first_of id it) slots
-
--- the index is of these slots, and has room for as many as there is room for
-pub record AreIndexed (slots : Queued SlotView) (it : IndexView) : Type 0 where
-  pub index : IsIndexOf slots.items it
-  pub room : length it.nexts ≡ slots.room + 1
-  pub few : length slots.items ≤ slots.room
+-- the requests that wait are found by the ids of the messages, and by their numbers
+pub record AreIndexed (slots : Queued SlotView) (ids numbers : Queued (Option ℕ)) : Type 0 where
+  pub by_id : IsBy id_of slots ids
+  pub by_number : IsBy number_of_waiting slots numbers
 
 -- ---- the queue
 
@@ -125,4 +102,14 @@ pub record IsWithoutFirstFor (id : ℕ) (waiting : WaitingView) (old new : Queue
   pub was : old.items ≡ first ++ waiting ∷ later
   pub is_first : waiting_for id first ≡ []
   pub waits : waiting.id ≡ id
+  pub left : new ≡ record old { items = first ++ later }
+
+-- the first one of this number is taken out
+pub record IsWithoutFirstNumbered (number : ℕ) (waiting : WaitingView)
+    (old new : Queued WaitingView) : Type 0 where
+  pub first : List WaitingView
+  pub later : List WaitingView
+  pub was : old.items ≡ first ++ waiting ∷ later
+  pub is_first : HaveOther number_of_waiting number first
+  pub has_number : waiting.task.number ≡ number
   pub left : new ≡ record old { items = first ++ later }

@@ -38,7 +38,7 @@ pub(crate) fn wait_for_answer<B: AnswerBook, F: Facts, I: Ids>(
         (λ id. SendsFirst asked id requests.new.waiting questions.old questions.new) }
     ensures awaited { AreAwaited requests.old questions.old
         → AreAwaited requests.new questions.new }
-    ensures held { (requests.new.held ≡ requests.old.held) ⊎ CannotAsk I.draws questions.new }
+    ensures held { (requests.new.held ≡ requests.old.held) ⊎ CannotAsk I.draws questions.old }
 {
     let Some(question) = task.question() else {
         requests.end(task, Outcome::Memory);

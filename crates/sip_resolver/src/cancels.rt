@@ -1,6 +1,7 @@
 //! How a request is cancelled.
-ghost use Rattle.std.specs.Prelude.{◌≡◌, ◌<◌, [], ◌∷◌, ◌++◌};
-ghost use Rattle.sip_resolver.specs.Cancels.{others_by, questions_left};
+ghost use Rattle.std.specs.Prelude.{◌≡◌, ◌<◌, [], ◌∷◌, ◌++◌, IsFalse, IsTrue};
+ghost use Rattle.sip_resolver.specs.Cancels.{is_awaited, others_by, questions_left};
+ghost use Rattle.sip_resolver.specs.Questions.{closed_both};
 ghost use Rattle.sip_resolver.specs.Requests.{count_of, number_of_ended, number_of_waiting};
 
 use crate::outcome::Resolved;
@@ -8,10 +9,9 @@ use crate::questions::Questions;
 use crate::ready::Ready;
 use crate::requests::Requests;
 use crate::task::Task;
-use crate::waiting_slots::Waiting;
 
 /// Takes all requests of this number out of those that wait, and closes the questions that none
-/// waits for any more.
+/// waits for any more. All others stay where they are.
 pub(crate) fn remove_waiting<B>(requests: &mut Requests<B>, questions: &mut Questions, number: u64)
     ensures requests { requests.new ≡ record requests.old {
       waiting = others_by number_of_waiting number requests.old.waiting;
@@ -19,34 +19,17 @@ pub(crate) fn remove_waiting<B>(requests: &mut Requests<B>, questions: &mut Ques
     ensures questions { questions.new
         ≡ questions_left requests.old.waiting requests.new.waiting questions.old }
 {
-    'waits: for _wait in 0..requests.waiting_len() {
-        match requests.next_waiting() {
-            None => return,
-            Some(waiting) => wait_on(requests, questions, waiting, number),
-        }
+    'waits: while let Some(waiting) = requests.next_numbered(number) {
+        close_unawaited(requests, questions, waiting.id);
     }
 }
 
-/// Puts a request back that was taken out of those that wait, unless it has this number. Then its
-/// question is closed where none waits for it any more.
-fn wait_on<B>(
-    requests: &mut Requests<B>,
-    questions: &mut Questions,
-    waiting: Waiting<B>,
-    number: u64,
-)
-    requires room { count_of requests.old < requests.old.limit }
-    ensures requests { requests.new ≡ record requests.old {
-      waiting = requests.old.waiting ++ others_by number_of_waiting number (waiting ∷ []);
-    } }
-    ensures questions { questions.new
-        ≡ questions_left (waiting ∷ requests.old.waiting) requests.new.waiting questions.old }
+/// Closes the question of this id where no request waits for it any more.
+fn close_unawaited<B>(requests: &Requests<B>, questions: &mut Questions, id: u16)
+    ensures awaited { IsTrue (is_awaited requests.now.waiting id) → questions.new ≡ questions.old }
+    ensures left { IsFalse (is_awaited requests.now.waiting id)
+        → questions.new ≡ closed_both id questions.old }
 {
-    let Waiting { id, task } = waiting;
-    if task.number() != number {
-        requests.wait(id, task);
-        return;
-    }
     if !requests.is_awaited(id) {
         questions.close(id);
     }
@@ -60,6 +43,9 @@ pub(crate) fn remove_not_waiting<B>(requests: &mut Requests<B>, number: u64)
       ended = others_by number_of_ended number requests.old.ended;
     } }
 {
+    if !requests.has(number) {
+        return;
+    }
     remove_ready(requests, number);
     remove_held(requests, number);
     remove_ended(requests, number);

@@ -39,7 +39,11 @@
 //! `next_timeout` says so ends each request in time. What is sent says which send of its question
 //! it is (`Transmit::send`), by which a caller with several servers takes the next one.
 //!
+//! A request that is held, since as many questions are out as can be, goes on before those that
+//! can go on: so requests that come do not starve it.
+//!
 //! `cancel` takes a request out that is no longer wanted, by its number: no outcome comes of it.
+//! Where it waits for a reply it is found by its number, and no other request is moved.
 //!
 //! `restart` lets all requests begin their choices anew, so that they may go on at another book:
 //! `specs/Restarts.antt` says what is left.
@@ -72,7 +76,6 @@ mod drive;
 mod earliest;
 mod expiries;
 mod facts;
-mod id_index;
 mod id_streams;
 mod ids;
 mod key;
@@ -88,6 +91,8 @@ mod requests;
 mod resolver;
 mod restarts;
 mod rounding;
+mod slot_index;
+mod slot_links;
 mod submitted;
 mod task;
 mod transmit;

@@ -7,7 +7,7 @@ ghost use Rattle.dns_queries.specs.Out.{HasQuestion, LacksQuestion};
 ghost use Rattle.dns_queries.specs.Tickets.{ticket_of};
 ghost use Rattle.sip_resolver.specs.Ends.{EndsMore};
 ghost use Rattle.dns_queries.specs.declared.refusal.AskRefusal.TheVariants as refusals;
-ghost use Rattle.sip_resolver.specs.Idle.{AreAwaited, AreTaken, HasNoRoom, IsFull, IsInWait, IsOut, MayRefuse};
+ghost use Rattle.sip_resolver.specs.Idle.{AreAwaited, AreTaken, HasMore, HasNoRoom, IsFull, IsInWait, IsOut, MayRefuse};
 ghost use Rattle.sip_resolver.specs.Questions.{AreDistinct, IsLeast, IsScheduled, IsSent, Lacks, asked_over, asking_over, closed_both, closed_over, count_out, deadlines_of, left_over, none_out, schedule_of};
 ghost use Rattle.sip_resolver.specs.QuestionTables.{IsIndex, id_in};
 ghost use Rattle.sip_resolver.specs.Requests.{AreSame, Stand};
@@ -240,6 +240,7 @@ impl Questions {
         ensures stand { (seat : SeatView) → Stand F.gives F.shows seat requests.old
             → Stand F.gives F.shows seat requests.new }
         ensures same { AreSame requests.old requests.new }
+        ensures ready { HasMore requests.old.ready requests.new.ready }
         ensures ends { EndsMore (IsInTime (schedule_of self.old) (tickets_of self.old) now)
             requests.old.ended requests.new.ended }
         ensures sends { MatchOption result (GivesUpBoth now self.old self.new)

@@ -6,8 +6,9 @@ ghost use Rattle.sip_resolver.specs.Earliest.{IsEarliest, untils_in};
 ghost use Rattle.sip_resolver.specs.Expiries.{HaveTime, untils_of};
 ghost use Rattle.sip_resolver.specs.Outcomes.{Ended};
 ghost use Rattle.sip_resolver.specs.Questions.{IsLeast};
-ghost use Rattle.sip_resolver.specs.Requests.{IsAwaitedBy, IsWithoutEnded, IsWithoutHeld, IsWithoutReady, IsWithoutWaiting, IsWithoutWaitingFor, count_of, number_of_ended, numbers_of, requests_of, waiting_for};
+ghost use Rattle.sip_resolver.specs.Requests.{IsAwaitedBy, IsWithoutEnded, IsWithoutHeld, IsWithoutNumbered, IsWithoutReady, IsWithoutWaiting, IsWithoutWaitingFor, count_of, number_of_ended, number_of_waiting, numbers_of, requests_of, waiting_for};
 ghost use Rattle.sip_resolver.specs.Tasks.{sought_of};
+ghost use Rattle.sip_resolver.specs.WaitingQueues.{HaveOther};
 
 use crate::earliest::Earliest;
 use crate::number_filter::NumberFilter;
@@ -106,17 +107,18 @@ impl<B> Requests<B> {
         self.find(number)
     }
 
-    /// Looks along all of them for one of this number.
+    /// Looks for one of this number: first where those that wait are found by their numbers, then
+    /// along all others.
     fn find(&self, number: u64) -> bool
         ensures { IsTrue result ↔ Contains (numbers_of self.now) number }
     {
+        if self.waiting.has(number) {
+            return true;
+        }
         if self.ready.has(number) {
             return true;
         }
         if self.held.has(number) {
-            return true;
-        }
-        if self.waiting.has(number) {
             return true;
         }
         self.ended.has(number)
@@ -310,6 +312,18 @@ impl<B> Requests<B> {
         self.earliest.remove(waiting.its_until());
         self.numbers.remove(waiting.number());
         Some(waiting.task)
+    }
+
+    /// Takes the first one out that waits and has this number. The others stay in their order.
+    pub(crate) fn next_numbered(&mut self, number: u64) -> Option<Waiting<B>>
+        ensures { MatchOption result
+            (HaveOther number_of_waiting number self.old.waiting × (self.new ≡ self.old))
+            (λ waiting. IsWithoutNumbered number waiting self.old self.new) }
+    {
+        let waiting = self.waiting.take_numbered(number)?;
+        self.earliest.remove(waiting.its_until());
+        self.numbers.remove(waiting.number());
+        Some(waiting)
     }
 
     /// Takes the first one out that ended.

@@ -13,7 +13,7 @@ ghost use Rattle.srv_choice.specs.Draws.{words_of};
 ghost use Rattle.sip_resolver.specs.Cancels.{questions_left, requests_with, requests_without};
 ghost use Rattle.sip_resolver.specs.Ends.{EndsMore, IsByChoice, IsByReply, IsMemory};
 ghost use Rattle.sip_resolver.specs.Expiries.{timeouts_of};
-ghost use Rattle.sip_resolver.specs.Idle.{AreAwaited, CannotAsk, IsIdle, IsOut};
+ghost use Rattle.sip_resolver.specs.Idle.{AreAwaited, CannotAsk, IsIdle, IsOut, IsTurn};
 ghost use Rattle.sip_resolver.specs.Outcomes.{IsOutcome, Sought};
 ghost use Rattle.sip_resolver.specs.Questions.{IsLeast, asking_over, count_out, schedule_of};
 ghost use Rattle.sip_resolver.specs.Requests.{AreSame, IsAwaitedBy, IsBack, Stand, count_of, numbers_of, weight};
@@ -223,8 +223,8 @@ impl<B: AnswerBook, F: Facts, I: Ids + Drop> Resolver<B, F, I> {
     /// First each request ends whose moment (`submit`) has come by `now`. The question that it
     /// waited for is closed, and not sent again, where no other request waits for it. Then
     /// questions whose replies did not come in time are sent once more, or given up where they were
-    /// sent as often as the schedule says; then each request that can goes on, by what the book
-    /// has.
+    /// sent as often as the schedule says. Then each request that is held goes on, while another
+    /// question can be asked, and then each that can, by what the book has.
     ///
     /// Moments are whole seconds, and most calls come between two of them. `now` is the time
     /// rounded down: what was due by then is due, and the book is read at it. `asked` is the time
@@ -509,6 +509,8 @@ impl<B: AnswerBook, F: Facts, I: Ids + Drop> Resolver<B, F, I> {
             self.old.questions self.new.questions) }
         ensures awaited { AreAwaited self.old.requests self.old.questions
             → AreAwaited self.new.requests self.new.questions }
+        ensures turn { IsTurn I.draws asked result self.old.requests self.new.requests
+            self.new.questions }
         ensures idle { IfNone result
             (IsIdle I.draws now self.new.requests self.new.questions) }
     {
@@ -518,10 +520,10 @@ impl<B: AnswerBook, F: Facts, I: Ids + Drop> Resolver<B, F, I> {
         {
             return Some(id);
         }
-        if let Some(id) = self.run_ready(book, seat, now, asked) {
+        if let Some(id) = self.run_held(book, seat, now, asked) {
             return Some(id);
         }
-        self.run_held(book, seat, now, asked)
+        self.run_ready(book, seat, now, asked)
     }
 
     /// Lets each request go on that is ready, until a question is sent for one, and gives its id.
@@ -542,6 +544,8 @@ impl<B: AnswerBook, F: Facts, I: Ids + Drop> Resolver<B, F, I> {
         ensures awaited { AreAwaited self.old.requests self.old.questions
             → AreAwaited self.new.requests self.new.questions }
         ensures ready { IfNone result (self.new.requests.ready ≡ []) }
+        ensures held { (self.new.requests.held ≡ self.old.requests.held)
+            ⊎ CannotAsk I.draws self.old.questions }
     {
         'tasks: while let Some(task) = self.requests.next_ready() {
             if let Some(id) = self.advance(book, seat, now, asked, task) {
@@ -616,7 +620,7 @@ impl<B: AnswerBook, F: Facts, I: Ids + Drop> Resolver<B, F, I> {
         ensures awaited { AreAwaited self.old.requests self.old.questions
             → AreAwaited self.new.requests self.new.questions }
         ensures held { (self.new.requests.held ≡ self.old.requests.held)
-            ⊎ CannotAsk I.draws self.new.questions }
+            ⊎ CannotAsk I.draws self.old.questions }
     {
         let (was, number) = (Snapshot::of(&task), task.number());
         match task.step::<F>(self.alloc, book, seat, now) {

@@ -5,7 +5,7 @@ ghost use Rattle.sip_resolver.specs.Cancels.{is_awaited};
 ghost use Rattle.sip_resolver.specs.Earliest.{ends_at};
 ghost use Rattle.sip_resolver.specs.Questions.{IsLeast};
 ghost use Rattle.sip_resolver.specs.Requests.{IsAwaitedBy, number_of_waiting, waiting_for};
-ghost use Rattle.sip_resolver.specs.WaitingQueues.{IsWithoutFirstFor};
+ghost use Rattle.sip_resolver.specs.WaitingQueues.{HaveOther, IsWithoutFirstFor, IsWithoutFirstNumbered};
 
 use crate::waiting_slots::{Waiting, WaitingSlots};
 use std::alloc::{AllocError, Global};
@@ -13,7 +13,7 @@ use std::marker::Model;
 
 /// Requests that wait for replies, in the order in which they came, in memory that `new` takes: a
 /// push takes none. A request that is taken out leaves its slot empty, until there is no slot left
-/// for one that comes. An index finds those that wait for one reply.
+/// for one that comes. Indexes find those that wait for one reply, and the one of a number.
 #[derive(Drop)]
 pub(crate) struct WaitingQueue<B> {
     slots: WaitingSlots<B>,
@@ -101,13 +101,26 @@ impl<B> WaitingQueue<B> {
         Some(waiting)
     }
 
+    /// Takes the first one out that has this number. The others stay in their order.
+    pub(crate) fn take_numbered(&mut self, number: u64) -> Option<Waiting<B>>
+        ensures { MatchOption result
+            (HaveOther number_of_waiting number self.old.items × (self.new ≡ self.old))
+            (λ waiting. IsWithoutFirstNumbered number waiting self.old self.new) }
+    {
+        let place = self.slots.find_number(number)?;
+        let waiting = self.slots.take(place)?;
+        self.count -= 1;
+        Some(waiting)
+    }
+
     /// The id of the message whose reply a request of this number waits for, if one waits.
     pub(crate) fn awaited_id(&self, number: u64) -> Option<u16>
         ensures { MatchOption result
             (All (λ it. it.task.number ≡ number → ⊥) self.now.items)
             (λ id. IsAwaitedBy number id self.now.items) }
     {
-        self.slots.id_of(number)
+        let place = self.slots.find_number(number)?;
+        Some(self.slots.id_at(place))
     }
 
     /// Whether one of them has this number.

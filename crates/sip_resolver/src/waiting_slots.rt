@@ -1,14 +1,14 @@
 //! The requests that wait for replies, in slots.
-ghost use Rattle.std.specs.Prelude.{◌≡◌, ◌↔◌, ◌<◌, ◌≤◌, ◌+◌, ℕ, [], ◌∷◌, ◌++◌, Some, IfOk, IsSomeAnd, IsTrue, MatchOption, length, take};
-ghost use Rattle.std.specs.List.{All, filter, filter_map, sum_by};
+ghost use Rattle.std.specs.Prelude.{◌≡◌, ◌↔◌, ◌<◌, ◌≤◌, [], ◌∷◌, ◌++◌, Some, IfOk, IsSomeAnd, IsTrue, MatchOption, length, slice_get, take};
+ghost use Rattle.std.specs.List.{filter, filter_map, sum_by};
 ghost use Rattle.std.specs.Option.{is_some};
 ghost use Rattle.sip_resolver.specs.Earliest.{ends_at};
 ghost use Rattle.sip_resolver.specs.Questions.{IsLeast};
-ghost use Rattle.sip_resolver.specs.Requests.{IsAwaitedBy};
-ghost use Rattle.sip_resolver.specs.WaitingQueues.{IsFirst, IsIndexOf, IsTakenAt, NoneBefore, WaitsAt, is_numbered, is_slot_for, items_of, until_in};
+ghost use Rattle.sip_resolver.specs.Requests.{number_of_waiting};
+ghost use Rattle.sip_resolver.specs.WaitingQueues.{HaveOther, IsFirst, IsFirstOf, IsTakenAt, IsTakenSlot, id_of, items_of, until_in};
 
-use crate::id_index::IdIndex;
 use crate::queue::{Numbered, Queue, Timed};
+use crate::slot_index::SlotIndex;
 use crate::task::Task;
 use std::alloc::{AllocError, Global};
 use std::marker::Model;
@@ -67,23 +67,6 @@ impl<B> Slot<B> {
     {
         self.task.is_some()
     }
-
-    /// Whether a request waits in it for the reply to the message of this id.
-    fn is_for(&self, id: u16) -> bool
-        ensures { result ≡ is_slot_for id self.now }
-    {
-        self.id == id && self.is_taken()
-    }
-
-    /// Whether the request of this number waits in it.
-    fn has_number(&self, number: u64) -> bool
-        ensures { result ≡ is_numbered number self.now.task }
-    {
-        match &self.task {
-            Some(task) => task.number() == number,
-            None => false,
-        }
-    }
 }
 
 impl<B> Timed for Slot<B> {
@@ -97,12 +80,15 @@ impl<B> Timed for Slot<B> {
     }
 }
 
-/// Slots in the order in which their requests came, in memory that `new` takes, and an index of
-/// them by their ids.
+/// Slots in the order in which their requests came, in memory that `new` takes, and indexes of them
+/// by their ids and by the numbers of their requests.
 #[derive(Drop)]
 pub(crate) struct WaitingSlots<B> {
     slots: Queue<Slot<B>>,
-    index: IdIndex,
+    /// By the ids of the messages for whose replies requests wait.
+    ids: SlotIndex,
+    /// By the numbers of the requests.
+    numbers: SlotIndex,
 }
 
 impl<B> Model for WaitingSlots<B> {
@@ -113,19 +99,7 @@ impl<B> Model for WaitingSlots<B> {
 
     ghost view = { λ it. it.slots };
 
-    ghost invariant = { λ it. AreIndexed it.slots it.index };
-}
-
-/// Indexes slots anew.
-fn index_slots<B>(index: &mut IdIndex, slots: &Queue<Slot<B>>)
-    requires { length slots.now.items < length index.old.nexts }
-    ensures index { IsIndexOf slots.now.items index.new }
-    ensures room { length index.new.nexts ≡ length index.old.nexts }
-{
-    index.clear();
-    'slots: for place in 0..slots.len() {
-        index.add(place, slots.at(place).id);
-    }
+    ghost invariant = { λ it. AreIndexed it.slots it.ids it.numbers };
 }
 
 impl<B> WaitingSlots<B> {
@@ -136,7 +110,8 @@ impl<B> WaitingSlots<B> {
     {
         Ok(WaitingSlots {
             slots: Queue::new(alloc, room)?,
-            index: IdIndex::new(alloc, room)?,
+            ids: SlotIndex::new(alloc, room)?,
+            numbers: SlotIndex::new(alloc, room)?,
         })
     }
 
@@ -148,7 +123,8 @@ impl<B> WaitingSlots<B> {
         } }
     {
         let Waiting { id, task } = waiting;
-        self.index.add(self.slots.len(), id);
+        self.ids.push(u64::from(id));
+        self.numbers.push(task.number());
         self.slots.push(Slot {
             id,
             task: Some(task),
@@ -157,19 +133,26 @@ impl<B> WaitingSlots<B> {
 
     /// The place of the first one in which a request waits for the reply to the message of this id.
     pub(crate) fn find(&self, id: u16) -> Option<usize>
-        ensures { MatchOption result (NoneBefore id (length self.now.items) self.now.items)
-            (λ place. WaitsAt self.now.items place id × NoneBefore id place self.now.items) }
+        ensures { MatchOption result (HaveOther id_of id (items_of self.now.items))
+            (λ place. IsFirstOf id_of id place self.now.items) }
     {
-        let end = self.index.end(id);
-        let mut place = self.index.first(id);
-        'places: while place < end {
-            let slot = self.slots.at(place);
-            if slot.is_for(id) {
-                return Some(place);
-            }
-            place = self.index.next(place, slot.id, id);
-        }
-        None
+        self.ids.find(u64::from(id))
+    }
+
+    /// The place of the first one in which a request of this number waits.
+    pub(crate) fn find_number(&self, number: u64) -> Option<usize>
+        ensures { MatchOption result (HaveOther number_of_waiting number (items_of self.now.items))
+            (λ place. IsFirstOf number_of_waiting number place self.now.items) }
+    {
+        self.numbers.find(number)
+    }
+
+    /// The id of the message for whose reply a request waits, or waited, in the slot at a place.
+    pub(crate) fn id_at(&self, place: usize) -> u16
+        requires { place < length self.now.items }
+        ensures { IsSomeAnd (slice_get self.now.items place) (λ slot. result ≡ slot.id) }
+    {
+        self.slots.at(place).id
     }
 
     /// The place of the first one in which a request waits, where none does in front of the head.
@@ -182,21 +165,6 @@ impl<B> WaitingSlots<B> {
         'slots: for place in head..self.slots.len() {
             if self.slots.at(place).is_taken() {
                 return Some(place);
-            }
-        }
-        None
-    }
-
-    /// The id of the message for whose reply the request of this number waits, if it waits.
-    pub(crate) fn id_of(&self, number: u64) -> Option<u16>
-        ensures { MatchOption result
-            (All (λ it. it.task.number ≡ number → ⊥) (items_of self.now.items))
-            (λ id. IsAwaitedBy number id (items_of self.now.items)) }
-    {
-        'slots: for place in 0..self.slots.len() {
-            let slot = self.slots.at(place);
-            if slot.has_number(number) {
-                return Some(slot.id);
             }
         }
         None
@@ -220,11 +188,12 @@ impl<B> WaitingSlots<B> {
     /// Takes the request out that waits in the slot at a place, which stays behind.
     pub(crate) fn take(&mut self, place: usize) -> Option<Waiting<B>>
         requires within { place < length self.old.items }
-        requires waits { (id : ℕ) × WaitsAt self.old.items place id }
+        requires waits { IsTakenSlot place self.old.items }
         ensures { IsSomeAnd result (λ waiting. IsTakenAt place waiting self.old self.new) }
     {
         let waiting = self.slots.take_waiting(place)?;
-        self.index.pass(place, waiting.id);
+        self.ids.leave(place);
+        self.numbers.leave(place);
         Some(waiting)
     }
 
@@ -242,8 +211,9 @@ impl<B> WaitingSlots<B> {
         if self.slots.has_room() {
             return head;
         }
-        self.slots.leave_taken();
-        index_slots(&mut self.index, &self.slots);
+        self.slots.keep_taken();
+        self.ids.keep_taken();
+        self.numbers.keep_taken();
         0
     }
 }
@@ -259,7 +229,7 @@ impl<B> Queue<Slot<B>> {
     /// Takes the request out that waits in the slot at a place.
     fn take_waiting(&mut self, place: usize) -> Option<Waiting<B>>
         requires within { place < length self.old.items }
-        requires waits { (id : ℕ) × WaitsAt self.old.items place id }
+        requires waits { IsTakenSlot place self.old.items }
         ensures { IsSomeAnd result (λ waiting. IsTakenAt place waiting self.old self.new) }
     {
         let slot = &mut self.items[place];
@@ -268,7 +238,7 @@ impl<B> Queue<Slot<B>> {
     }
 
     /// Lets the slots go in which none waits.
-    fn leave_taken(&mut self)
+    fn keep_taken(&mut self)
         ensures { self.new ≡ record self.old {
           items = filter (λ slot. is_some slot.task) self.old.items;
         } }

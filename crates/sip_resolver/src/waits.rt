@@ -7,7 +7,7 @@ ghost use Rattle.dns_queries.specs.Tickets.{Ticket as ticket};
 ghost use Rattle.sip_selection.specs.Choice.{need};
 ghost use Rattle.sip_selection.specs.Selections.{now_of};
 ghost use Rattle.sip_resolver.specs.Ends.{EndsMore};
-ghost use Rattle.sip_resolver.specs.Idle.{AreIn, IsInWait};
+ghost use Rattle.sip_resolver.specs.Idle.{AreIn, HasMore, IsInWait};
 ghost use Rattle.sip_resolver.specs.Questions.{Differ, Fewer};
 ghost use Rattle.sip_resolver.specs.QuestionTables.{IsIndex, id_in};
 ghost use Rattle.sip_resolver.specs.Requests.{AreSame, IsBack, Stand, count_of};
@@ -92,6 +92,7 @@ pub(crate) fn next_resend<B: AnswerBook, F: Facts>(
     ensures stand { (seat : SeatView) → Stand F.gives F.shows seat requests.old
         → Stand F.gives F.shows seat requests.new }
     ensures same { AreSame requests.old requests.new }
+    ensures ready { HasMore requests.old.ready requests.new.ready }
     ensures ends { EndsMore (IsInTime asker.old.schedule asker.old.tickets now)
         requests.old.ended requests.new.ended }
     ensures sends { MatchOption result (GivesUp now asker.old asker.new)

@@ -42,9 +42,7 @@ returns-in-Ok-clause-held g c = inl (rw c.wait-in-Ok.ensures refl)
 pub returns-then-is_for_now-clause-held : goal.returns-then-is_for_now-clause-held
 returns-then-is_for_now-clause-held g c =
     let why = c.is_for_now.ensures.0 c.if-is_for_now.true in
-    inr
-    (rw c.in-Err.ensures.unchanged
-    (cannot-ask g.I.Ids.draws c.args.questions.now c.in-Err.refusal c.in-Err.ensures.refused why))
+    inr (cannot-ask g.I.Ids.draws c.args.questions.now c.in-Err.refusal c.in-Err.ensures.refused why)
 
 pub returns-clause-held : goal.returns-clause-held
 returns-clause-held g c = inl (rw c.end-2.ensures refl)

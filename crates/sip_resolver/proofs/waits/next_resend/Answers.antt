@@ -6,7 +6,7 @@ use Rattle.sip_resolver.proofs.Idling.{given-up-few, given-up-limit, none-left, 
 use Rattle.sip_resolver.proofs.Deadlines.{wait-longer}
 use Rattle.sip_resolver.proofs.Indexing.{index-given-up, index-resent}
 use Rattle.sip_resolver.proofs.Sending.{given-up-by, gives-up-not, gives-up-too, unanswered}
-use Rattle.sip_resolver.proofs.Settling.{settles-ends}
+use Rattle.sip_resolver.proofs.Settling.{more-not, more-through, settles-ends, settles-more}
 use Rattle.sip_resolver.proofs.Weighing.{same-not, same-through}
 use Rattle.sip_resolver.specs.Idle.{IsInWait}
 use Rattle.sip_resolver.specs.QuestionTables.{id_in}
@@ -25,6 +25,7 @@ dues-init g c = record {
   limit = refl;
   gives_up = gives-up-not c.args.now c.args.asker.now;
   same = same-not c.args.requests.now;
+  ready = more-not c.args.requests.now.ready;
 }
 
 pub dues-preserved : goal.dues-preserved
@@ -64,6 +65,8 @@ dues-preserved g c = record {
       let is = given-up-by c.args.now c.args.sent _ _ c.dues.asker _ (c.is_overdue.ensures.over c.if-not-is_overdue.false) due in
       gives-up-too _ _ _ c.args.asker.now _ _ c.dues.invariant.gives_up is;
   same = same-through c.args.requests.now c.dues.requests c.settle_all.new.requests c.dues.invariant.same c.settle_all.ensures.same;
+  ready = more-through c.args.requests.now.ready c.dues.requests.ready c.settle_all.new.requests.ready c.dues.invariant.ready
+      (settles-more _ c.dues.requests c.settle_all.new.requests c.settle_all.ensures.settles);
 }
 
 pub returns-in-None-clause-fewer : goal.returns-in-None-clause-fewer

@@ -3,7 +3,7 @@ use Rattle.std.specs.List.{AllPairs}
 use Rattle.answer_cache.specs.Seats.{SeatView}
 use Rattle.dns_queries.specs.Tickets.{Ticket}
 use Rattle.sip_resolver.specs.Ends.{EndsMore}
-use Rattle.sip_resolver.specs.Idle.{AreIn}
+use Rattle.sip_resolver.specs.Idle.{AreIn, HasMore}
 use Rattle.sip_resolver.specs.QuestionTables.{IsIndex, id_in}
 use Rattle.sip_resolver.specs.Questions.{Differ, Fewer}
 use Rattle.sip_resolver.specs.Requests.{AreSame, Stand}
@@ -23,4 +23,5 @@ invariant-dues g l = record {
   limit : l.asker.limit ≡ l.fn.asker.limit;
   gives_up : GivesUp l.now l.fn.asker l.asker;
   same : AreSame l.fn.requests l.requests;
+  ready : HasMore l.fn.requests.ready l.requests.ready;
 }

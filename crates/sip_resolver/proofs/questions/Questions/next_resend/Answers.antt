@@ -4,6 +4,7 @@ use Rattle.sip_resolver.proofs.Apart.{distinct-fewer, fewer-not}
 use Rattle.sip_resolver.proofs.Awaiting.{in-flipped}
 use Rattle.sip_resolver.proofs.Ending.{ends-as, ends-through, in-time-of}
 use Rattle.sip_resolver.proofs.Sending.{schedule-resent, scheduled-before, sends-both, sends-datagram}
+use Rattle.sip_resolver.proofs.Settling.{more-through}
 use Rattle.sip_resolver.specs.Questions.{QuestionsView, schedule_of}
 use Rattle.sip_resolver.specs.Sends.{IsInTime, tickets_of}
 use Rattle.sip_resolver.proofs.questions.Questions.next_resend.Goals as goal
@@ -99,3 +100,8 @@ returns-clause-awaited g c =
     in-flipped _ _ _
     (c.next_resend-2.ensures.awaited c.next_resend.new.asker.tickets
     (in-flipped _ _ _ (c.next_resend.ensures.awaited c.self.inside.streams.tickets it))))
+
+pub returns-clause-ready : goal.returns-clause-ready
+returns-clause-ready g c =
+    more-through c.args.requests.now.ready c.next_resend.new.requests.ready c.next_resend-2.new.requests.ready c.next_resend.ensures.ready
+    c.next_resend-2.ensures.ready

@@ -1,6 +1,7 @@
 use Rattle.std.proofs.Common.{None, Some, refl}
 use Rattle.sip_resolver.proofs.Dealing.{spaced}
 use Rattle.sip_resolver.proofs.Expiring.{time-after, time-still}
+use Rattle.sip_resolver.proofs.Idling.{turn-sent}
 use Rattle.sip_resolver.proofs.Letting.{spaced-expired}
 use Rattle.sip_resolver.proofs.Sending.{sends-octets, sends-some}
 use Rattle.sip_resolver.proofs.Standing.{goes-through, nothing-through}
@@ -29,6 +30,10 @@ returns g c =
               c.expire.ensures.expires (spaced c.args.now c.args.asked c.self.inside.requests.waiting c.expire.new.self.questions
               c.self.inside.questions
               (Some c.in_ok-id.field-0) c.law_stand_in_order.ensures.scheduled told.sends);
+          turn = turn-sent g.I.Ids.draws c.args.asked c.in_ok-id.field-0 c.expire.new.self.requests c.self.inside.requests
+              c.self.inside.questions c.transmit_of.result c.transmit_of.ensures
+              (sends-some c.args.now c.args.asked c.in_ok-id.field-0 c.self.inside.requests.waiting c.expire.new.self.questions
+              c.self.inside.questions c.transmit_of.result told.sends c.transmit_of.ensures) told.turn;
           idle = sends-some c.args.now c.args.asked c.in_ok-id.field-0 c.self.inside.requests.waiting c.expire.new.self.questions
               c.self.inside.questions c.transmit_of.result told.sends c.transmit_of.ensures _;
           awaited = λ it. told.awaited (c.expire.ensures.awaited it);
@@ -66,6 +71,7 @@ returns-in_err-id g c =
               c.expire.ensures.expires (spaced c.args.now c.args.asked c.self.inside.requests.waiting c.expire.new.self.questions
               c.self.inside.questions None
               c.law_stand_in_order.ensures.scheduled told.sends);
+          turn = told.turn;
           idle = told.idle;
           awaited = λ it. told.awaited (c.expire.ensures.awaited it);
           distinct = c.law_stand_in_order.ensures.distinct;

@@ -1,5 +1,6 @@
-use Rattle.std.proofs.Common.{ap, subst}
+use Rattle.std.proofs.Common.{ap, subst, inl, refl}
 use Rattle.sip_resolver.proofs.Ending.{ends-ready}
+use Rattle.sip_resolver.proofs.Idling.{held-kept}
 use Rattle.sip_resolver.proofs.Inside.{ready-out}
 use Rattle.sip_resolver.proofs.Turns.{went-not, went-too}
 use Rattle.sip_resolver.proofs.Weighing.{ready-back}
@@ -12,6 +13,7 @@ pub tasks-init : goal.tasks-init
 tasks-init g c = record {
   stays = c.requires.made_here;
   went = went-not _ _ (g.B.AnswerBook.shown c.args.seat.now) c.args.self.now c.requires.stand;
+  held = inl refl;
 }
 
 pub advance-requires-clause-stand : goal.advance-requires-clause-stand
@@ -53,9 +55,20 @@ tasks-preserved g c =
           (ready-back c.self.inside.requests middle c.advance.new.self.requests c.in-Some.task c.in-Some.ensures c.advance.ensures.back))
           c.advance.ensures.goes_on c.advance.ensures.stores_nothing c.advance.ensures.stand
           (rw (← c.self.view_is) c.in_default-advance.ensures.sends) c.advance.ensures.ends;
+      held = held-kept g.I.Ids.draws c.args.self.now.requests.held c.self.inside.requests.held middle.held
+          c.advance.new.self.requests.held c.args.self.now.questions c.self.inside.questions
+          (rw (← c.self.view_is) at c.tasks.invariant.held) (ap (λ (it : RequestsView). it.held) c.in-Some.ensures.others)
+          c.advance.ensures.held (rw (← c.self.view_is) at c.tasks.invariant.went.questions);
     }
 
 pub returns-in-Some-advance-clause-awaited : goal.returns-in-Some-advance-clause-awaited
 returns-in-Some-advance-clause-awaited g c =
     let so = rw (← c.self.view_is) at c.tasks.invariant.went.awaited in
     λ it. c.advance.ensures.awaited (rw (ap (λ (it : RequestsView). it.waiting) c.in-Some.ensures.others) (so it))
+
+pub returns-in-Some-advance-clause-held : goal.returns-in-Some-advance-clause-held
+returns-in-Some-advance-clause-held g c =
+    held-kept g.I.Ids.draws c.args.self.now.requests.held c.self.inside.requests.held c.next_ready.new.self.held
+    c.advance.new.self.requests.held c.args.self.now.questions c.self.inside.questions
+    (rw (← c.self.view_is) at c.tasks.invariant.held) (ap (λ (it : RequestsView). it.held) c.in-Some.ensures.others)
+    c.advance.ensures.held (rw (← c.self.view_is) at c.tasks.invariant.went.questions)

@@ -2,7 +2,7 @@ use Rattle.std.proofs.Common.{refl, rules}
 use Rattle.std.specs.Option.{is_some}
 use Rattle.std.proofs.lemmas.Fn.{filter_same}
 use Rattle.sip_resolver.specs.WaitingQueues.{SlotView}
-use Rattle.sip_resolver.proofs.waiting_slots.Queue+Slot+B.leave_taken.Goals as goal
+use Rattle.sip_resolver.proofs.waiting_slots.Queue+Slot+B.keep_taken.Goals as goal
 
 pub returns : goal.returns
 returns g c =
