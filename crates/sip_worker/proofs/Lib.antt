@@ -1,4 +1,5 @@
 mod Collecting
+mod Reporting
 mod SameCaps
 mod Standing
 mod Telling

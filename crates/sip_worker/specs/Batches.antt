@@ -1,18 +1,21 @@
 -- A batch while its jobs are resolved. No public clause cites this module.
-use Rattle.std.specs.Prelude.{◌≡◌, ℕ, ◌+◌, ◌≤◌, ◌&&◌, Bool, None, if◌then◌else◌, List, [], ◌∷◌, length}
+use Rattle.std.specs.Prelude.{◌≡◌, ◌⊎◌, ℕ, ◌+◌, ◌<◌, ◌≤◌, ◌==◌, ◌&&◌, Bool, None, if◌then◌else◌, List, [], ◌∷◌, length, get_or}
 use Rattle.std.specs.List.{AllZip}
 use Rattle.std.specs.Option.{is_none}
 use Rattle.answer_cache.specs.Seats.{SeatView}
 use Rattle.sip_resolver.specs.Outcomes.{Sought}
 use Rattle.sip_resolver.specs.Requests.{RequestsView, Stand, weight}
 use Rattle.sip_resolver.specs.declared.outcome.Outcome.{Outcome}
+use Rattle.sip_worker.specs.Gates.{GateCall, begins, is_answered}
 use Rattle.sip_worker.specs.Outcomes.{IsOutcomeAt}
 use Rattle.sip_worker.specs.SameJobs.{same_job}
 use Rattle.sip_worker.specs.declared.job.Job.{Job}
 
--- the jobs, the requests that are inside, and what became of each job so far
+-- the jobs, how many of them were begun, the requests that are inside, and what became of each job
+-- so far
 pub record BatchView : Type 0 where
   pub jobs : List Job
+  pub begun : ℕ
   pub requests : RequestsView
   pub outcomes : List Outcome
 
@@ -73,3 +76,27 @@ pub record Stands (gives : List ℕ → Type 0) (shows : ℕ → Type 0) (seat :
     (batch : BatchView) : Type 0 where
   pub requests : Stand gives shows seat batch.requests
   pub told : AreTold gives shows seat batch.jobs batch.outcomes
+
+-- ---- what a gate was told
+
+-- 1 for what is submitted under this place
+abbrev pub at_number : ℕ → Sought → ℕ
+at_number place sought = if sought.number == place then 1 else 0
+
+-- a gate was told that the work on the job at a place begins; and that it has its outcome, unless
+-- its request is still inside
+pub record IsReported (told : GateCall → Type 0) (place : ℕ) (job : Job) (requests : RequestsView)
+    : Type 0 where
+  pub began : told (begins job.number)
+  pub ended : told (is_answered job.number) ⊎ (0 < weight (at_number place) requests)
+
+-- a gate was told of each of these jobs that was begun
+abbrev pub AreReported : (GateCall → Type 0) → List Job → ℕ → RequestsView → Type 0
+AreReported told jobs begun requests =
+    (place : ℕ) (job : Job) → place < begun → job ≡ get_or jobs place job
+    → IsReported told place job requests
+
+-- each job was begun, and no request is inside any more
+pub record IsDone (batch : BatchView) : Type 0 where
+  pub all : batch.begun ≡ length batch.jobs
+  pub none : (h : Sought → ℕ) → weight h batch.requests ≡ 0

@@ -1,4 +1,5 @@
 pub mod Outcomes
+pub mod Gates
 pub mod SameJobs
 pub mod Batches
 pub mod Drives

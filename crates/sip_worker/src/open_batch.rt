@@ -1,12 +1,13 @@
 //! A batch of jobs while they are resolved.
-ghost use Rattle.std.specs.Prelude.{◌≡◌, ◌<◌, ◌≤◌, ℕ, IfOk, length, replicate};
+ghost use Rattle.std.specs.Prelude.{◌≡◌, ◌⊎◌, ◌+◌, ◌<◌, ◌≤◌, ℕ, IfOk, IsTrue, get_or, length, replicate};
 ghost use Rattle.answer_cache.specs.Seats.{SeatView};
 ghost use Rattle.answer_cache.specs.Shared.{Belongs};
 ghost use Rattle.sip_resolver.specs.Outcomes.{Sought};
-ghost use Rattle.sip_resolver.specs.Requests.{Stand, weight};
+ghost use Rattle.sip_resolver.specs.Requests.{AreSame, Stand, weight};
 ghost use Rattle.sip_resolver.specs.Works.{Works};
 ghost use Rattle.sip_resolver.specs.declared.outcome.Outcome.TheVariants as outcomes;
-ghost use Rattle.sip_worker.specs.Batches.{Stands, sought_at};
+ghost use Rattle.sip_worker.specs.Gates.{begins, is_answered};
+ghost use Rattle.sip_worker.specs.Batches.{AreReported, IsDone, Stands, at_number, sought_at};
 
 use crate::drive::{receive_once, send_all};
 use crate::gate::Gate;
@@ -49,11 +50,12 @@ fn unknown(alloc: Global, count: usize) -> Result<Vec<Outcome>, AllocError>
     Ok(made)
 }
 
-/// The number of the job at this place.
-fn number_at(jobs: &[Job], place: usize) -> u64
+/// The job at this place.
+fn job_at(jobs: &[Job], place: usize) -> &Job
     requires { place < length jobs.now }
+    ensures { result.now ≡ get_or jobs.now place result.now }
 {
-    jobs[place].number
+    &jobs[place]
 }
 
 /// Hands the request of a job to a resolver, under the place of the job, and tells whether it took
@@ -67,6 +69,8 @@ fn submit<B: AnswerBook, F: Facts, I: Ids + Drop>(
         → Stand F.gives F.shows seat resolver.new.requests }
     ensures weighs { (h : Sought → ℕ) → h (sought_at place job.now) ≡ 0
         → weight h resolver.new.requests ≡ weight h resolver.old.requests }
+    ensures inside { IsTrue result → (h : Sought → ℕ) → weight h resolver.new.requests
+        ≡ weight h resolver.old.requests + h (sought_at place job.now) }
 {
     let Ok(request) = job.request.try_clone() else {
         return false;
@@ -75,6 +79,29 @@ fn submit<B: AnswerBook, F: Facts, I: Ids + Drop>(
     resolver
         .submit(place as u64, request, job.caps, &words, None)
         .is_ok()
+}
+
+/// Begins a job under its place, and tells the gate. Its request is inside then, or the gate was
+/// told that it has its outcome.
+fn begin<B: AnswerBook, F: Facts, I: Ids + Drop, G: Gate>(
+    resolver: &mut Resolver<B, F, I>,
+    gate: &G,
+    place: usize,
+    job: &Job,
+)
+    ensures stand { (seat : SeatView) → Stand F.gives F.shows seat resolver.old.requests
+        → Stand F.gives F.shows seat resolver.new.requests }
+    ensures weighs { (h : Sought → ℕ) → h (sought_at place job.now) ≡ 0
+        → weight h resolver.new.requests ≡ weight h resolver.old.requests }
+    ensures began { G.told gate.now (begins job.now.number) }
+    ensures ended { G.told gate.now (is_answered job.now.number)
+        ⊎ (0 < weight (at_number place) resolver.new.requests) }
+{
+    gate.begun(job.number);
+    if submit(resolver, place, job) {
+        return;
+    }
+    gate.answered(job.number);
 }
 
 /// The jobs of a batch. The request of each is inside a resolver under the place of its job, or
@@ -96,6 +123,7 @@ impl<'a, W, C> Model for OpenBatch<'a, W, C> {
 
     ghost view = { λ it. record {
       jobs = it.jobs.now;
+      begun = it.begun;
       requests = it.resolver.requests;
       outcomes = it.outcomes.items;
     } };
@@ -113,6 +141,7 @@ impl<'a, W: Wire, C: Clock> OpenBatch<'a, W, C> {
         ensures jobs { IfOk result (λ it. it.jobs ≡ jobs.now) }
         ensures stands { IfOk result
             (λ it. (seat : SeatView) → Stands W.gives C.shows seat it) }
+        ensures none { IfOk result (λ it. it.begun ≡ 0) }
     {
         let outcomes = unknown(alloc, jobs.len())?;
         let resolver = Resolver::new(alloc, limits_for(jobs.len()), ids)?;
@@ -125,7 +154,9 @@ impl<'a, W: Wire, C: Clock> OpenBatch<'a, W, C> {
     }
 
     /// Whether each job has its outcome.
-    pub(crate) fn is_done(&self) -> bool {
+    pub(crate) fn is_done(&self) -> bool
+        ensures { IsTrue result → IsDone self.now }
+    {
         self.begun == self.jobs.len() && self.resolver.is_empty()
     }
 
@@ -148,6 +179,9 @@ impl<'a, W: Wire, C: Clock> OpenBatch<'a, W, C> {
         ensures jobs { self.new.jobs ≡ self.old.jobs }
         ensures stands { (seat : SeatView) → Stands W.gives C.shows seat self.old
             → Stands W.gives C.shows seat self.new }
+        ensures reported { AreReported (G.told gate.now) self.old.jobs self.old.begun
+            self.old.requests
+            → AreReported (G.told gate.now) self.new.jobs self.new.begun self.new.requests }
     {
         let place = self.begun;
         if place == self.jobs.len() || !self.resolver.has_room() {
@@ -155,11 +189,8 @@ impl<'a, W: Wire, C: Clock> OpenBatch<'a, W, C> {
         }
         let jobs = self.jobs;
         let job = &jobs[place];
-        gate.begun(job.number);
         self.begun = place + 1;
-        if !submit(&mut self.resolver, place, job) {
-            gate.answered(job.number);
-        }
+        begin(&mut self.resolver, gate, place, job);
         true
     }
 
@@ -168,6 +199,9 @@ impl<'a, W: Wire, C: Clock> OpenBatch<'a, W, C> {
         ensures jobs { self.new.jobs ≡ self.old.jobs }
         ensures stands { (seat : SeatView) → Stands W.gives C.shows seat self.old
             → Stands W.gives C.shows seat self.new }
+        ensures reported { AreReported (G.told gate.now) self.old.jobs self.old.begun
+            self.old.requests
+            → AreReported (G.told gate.now) self.new.jobs self.new.begun self.new.requests }
     {
         'jobs: for _job in 0..self.jobs.len() {
             if !self.begin_next(gate) {
@@ -181,13 +215,16 @@ impl<'a, W: Wire, C: Clock> OpenBatch<'a, W, C> {
         ensures jobs { self.new.jobs ≡ self.old.jobs }
         ensures stands { (seat : SeatView) → Stands W.gives C.shows seat self.old
             → Stands W.gives C.shows seat self.new }
+        ensures reported { AreReported (G.told gate.now) self.old.jobs self.old.begun
+            self.old.requests
+            → AreReported (G.told gate.now) self.new.jobs self.new.begun self.new.requests }
     {
         let Some(ended) = self.resolver.poll_outcome() else {
             return false;
         };
         let place = ended.number() as usize;
         self.outcomes[place] = ended.into_outcome();
-        gate.answered(number_at(self.jobs, place));
+        gate.answered(job_at(self.jobs, place).number);
         true
     }
 
@@ -196,6 +233,9 @@ impl<'a, W: Wire, C: Clock> OpenBatch<'a, W, C> {
         ensures jobs { self.new.jobs ≡ self.old.jobs }
         ensures stands { (seat : SeatView) → Stands W.gives C.shows seat self.old
             → Stands W.gives C.shows seat self.new }
+        ensures reported { AreReported (G.told gate.now) self.old.jobs self.old.begun
+            self.old.requests
+            → AreReported (G.told gate.now) self.new.jobs self.new.begun self.new.requests }
     {
         'jobs: for _job in 0..self.jobs.len() {
             if !self.take_next(gate) {
@@ -219,6 +259,9 @@ impl<'a, W: Wire, C: Clock> OpenBatch<'a, W, C> {
         ensures works { Works W.gives C.shows seat.old.seat seat.new.seat }
         ensures jobs { self.new.jobs ≡ self.old.jobs }
         ensures stands { Stands W.gives C.shows seat.new.seat self.new }
+        ensures reported { AreReported (G.told gate.now) self.old.jobs self.old.begun
+            self.old.requests
+            → AreReported (G.told gate.now) self.new.jobs self.new.begun self.new.requests }
     {
         self.begin_all(gate);
         send_all(&mut self.resolver, cache, seat, wire, clock);
@@ -242,6 +285,8 @@ impl<'a, W: Wire, C: Clock> OpenBatch<'a, W, C> {
         ensures works { Works W.gives C.shows seat.old.seat seat.new.seat }
         ensures jobs { self.new.jobs ≡ self.old.jobs }
         ensures stands { Stands W.gives C.shows seat.new.seat self.new }
+        ensures begun { self.new.begun ≡ self.old.begun }
+        ensures same { AreSame self.old.requests self.new.requests }
     {
         if self.begun < self.jobs.len() && self.resolver.has_room() {
             return;

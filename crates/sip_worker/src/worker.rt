@@ -3,7 +3,8 @@ ghost use Rattle.std.specs.Prelude.{◌≡◌, IfOk, map};
 ghost use Rattle.std.specs.List.{All};
 ghost use Rattle.answer_cache.specs.Shared.{Belongs};
 ghost use Rattle.sip_resolver.specs.Works.{Works};
-ghost use Rattle.sip_worker.specs.Batches.{AreTold, Stands};
+ghost use Rattle.sip_worker.specs.Batches.{AreReported, AreTold, Stands};
+ghost use Rattle.sip_worker.specs.Gates.{IsToldOf};
 ghost use Rattle.sip_worker.specs.Outcomes.{IsOutcomeAt};
 
 use crate::gate::Gate;
@@ -48,19 +49,22 @@ fn resolve<R: Wait, W: Wire, C: Clock, G: Gate>(
 )
     requires made_here { Belongs cache.now seat.old }
     requires stands { Stands W.gives C.shows seat.old.seat batch.old }
+    requires none { batch.old.begun ≡ 0 }
     ensures stays { Belongs cache.now seat.new }
     ensures works { Works W.gives C.shows seat.old.seat seat.new.seat }
     ensures jobs { batch.new.jobs ≡ batch.old.jobs }
     ensures stands { Stands W.gives C.shows seat.new.seat batch.new }
+    ensures told { All (IsToldOf (G.told gate.now)) batch.new.jobs }
 {
     let mut buffer = [0; DATAGRAM_LIMIT];
     'rounds: for _ in rt.forever() {
         batch.advance(cache, seat, wire, clock, gate);
         if batch.is_done() {
-            break;
+            return;
         }
         batch.listen(rt, cache, seat, wire, clock, &mut buffer);
     }
+    unreachable!()
 }
 
 impl<W: Wire + Drop> Worker<W> {
@@ -106,8 +110,9 @@ impl<W: Wire + Drop> Worker<W> {
         Ok(results)
     }
 
-    /// Resolves these jobs, all at once, and gives what became of each, in their order. Where
-    /// memory is refused, what was stored stays stored.
+    /// Resolves these jobs, all at once, and gives what became of each, in their order. The gate is
+    /// told of each that it begins, and that it has its outcome. Where memory is refused, what was
+    /// stored stays stored.
     pub fn batch<'a, R: Wait, C: Clock, G: Gate>(
         &mut self,
         rt: &R,
@@ -124,6 +129,7 @@ impl<W: Wire + Drop> Worker<W> {
             × (it.notice.seen ≡ self.new.seat.seen)) made.items) }
         ensures outcomes { IfOk result (λ made. All (λ it.
             IsOutcomeAt W.gives C.shows self.new.seat it.job it.outcome) made.items) }
+        ensures told { IfOk result (λ _. All (IsToldOf (G.told gate.now)) jobs.now) }
     {
         let mut batch = OpenBatch::new(self.alloc, jobs, &mut self.ids)?;
         resolve(

@@ -8,6 +8,7 @@ use Rattle.std.specs.List.{sum_by}
 use Rattle.answer_cache.specs.Shared.{CacheView}
 use Rattle.sip_workers.specs.Deals.{AreTaken, IsReport, IsTaken, end_of, jobs_of}
 use Rattle.sip_workers.specs.Gathers.{job_in}
+use Rattle.sip_worker.specs.Gates.{GateCall}
 use Rattle.sip_worker.specs.Outcomes.{ResultView}
 use Rattle.sip_workers.specs.Rules.{pass_view}
 use Rattle.sip_worker.specs.declared.job.Job.{Job}
@@ -18,17 +19,18 @@ abbrev pub both_of : PassView → PassView → PassView
 both_of known part = pass_view known.deals (known.parts + part.parts) known.put (known.taken ++ part.taken)
 
 module _ (gives : List ℕ → Type 0) (shows : ℕ → Type 0) where
-  pub made-more : (jobs its_jobs : List Job) (cache its_cache : CacheView) (known part now : PassView) (made new : List ResultView)
-      → now ≡ both_of known part → its_jobs ≡ jobs → its_cache ≡ cache
-      → AreTaken gives shows cache jobs known made → AreTaken gives shows its_cache its_jobs part new
-      → AreTaken gives shows cache jobs now (made ++ new)
-  made-more jobs its_jobs cache its_cache known part now made new is one two before after =
-      let more : AreTaken gives shows cache jobs part new = rw (sym one, sym two) after in
+  pub made-more : (jobs its_jobs : List Job) (cache its_cache : CacheView) (told its_told : GateCall → Type 0)
+      (known part now : PassView) (made new : List ResultView)
+      → now ≡ both_of known part → its_jobs ≡ jobs → its_cache ≡ cache → its_told ≡ told
+      → AreTaken gives shows cache told jobs known made → AreTaken gives shows its_cache its_told its_jobs part new
+      → AreTaken gives shows cache told jobs now (made ++ new)
+  made-more jobs its_jobs cache its_cache told its_told known part now made new is one two three before after =
+      let more : AreTaken gives shows cache told jobs part new = rw (sym one, sym two, sym three) after in
       record {
         made_of = rw is
             (rw (map-append job_in made new, flat_map-append (jobs_of jobs) known.taken part.taken)
             (ap (λ l. l ++ map job_in new) before.made_of ∙ ap (λ l. flat_map (jobs_of jobs) known.taken ++ l) more.made_of));
-        told = All-append (IsReport gives shows cache) made new before.told more.told;
+        told_of = All-append (IsReport gives shows cache told) made new before.told_of more.told_of;
       }
 
 pub took-more : (known part now : PassView) (ended : Bool) → now ≡ both_of known part → IsTaken part ended → ended ≡ true

@@ -7,6 +7,7 @@ use Rattle.answer_log.specs.declared.store.Store.{Store}
 use Rattle.answer_cache.specs.Seats.{SeatView}
 use Rattle.answer_cache.specs.Shared.{Belongs, CacheView, NoticeView, SharedView}
 use Rattle.sip_workers.specs.Gathers.{job_in}
+use Rattle.sip_worker.specs.Gates.{GateCall, IsToldOf}
 use Rattle.sip_worker.specs.Outcomes.{IsOutcome, ResultView}
 use Rattle.sip_workers.specs.Rules.{pass_view}
 use Rattle.sip_workers.specs.Runs.{IsHistoryOf, IsOfReply}
@@ -70,10 +71,6 @@ module _ (gives : List ℕ → Type 0) (shows : ℕ → Type 0) where
     pub replies : All (IsOfReply gives shows) stores
 
   module _ (cache : CacheView) where
-    -- what a worker reports of a job, with a notice of this cache
-    abbrev pub IsReport : ResultView → Type 0
-    IsReport it = IsTold it × (it.notice.cache ≡ cache)
-
     -- a seat that a worker brings home, as it was before the run and as it is
     pub record ComesHome (first last : SharedView) : Type 0 where
       pub here : Belongs cache last
@@ -85,11 +82,18 @@ module _ (gives : List ℕ → Type 0) (shows : ℕ → Type 0) where
       pub after : new ≡ old ++ last ∷ []
       pub home : ComesHome first last
 
-    -- reports of the jobs of all that was taken
-    pub record AreTaken (jobs : List Job) (known : PassView) (made : List ResultView)
-        : Type 0 where
-      pub made_of : map job_in made ≡ flat_map (jobs_of jobs) known.taken
-      pub told : All IsReport made
+    module _ (told : GateCall → Type 0) where
+      -- what a worker reports of a job, of which the gate was told, with a notice of this cache
+      pub record IsReport (it : ResultView) : Type 0 where
+        pub says : IsTold it
+        pub here : it.notice.cache ≡ cache
+        pub gate : IsToldOf told it.job
+
+      -- reports of the jobs of all that was taken
+      pub record AreTaken (jobs : List Job) (known : PassView) (made : List ResultView)
+          : Type 0 where
+        pub made_of : map job_in made ≡ flat_map (jobs_of jobs) known.taken
+        pub told_of : All IsReport made
 
 -- the same, with this put
 abbrev pub stays_with : PassView → List Batch → PassView
@@ -119,8 +123,9 @@ pub record TellsOneHistory (cache : CacheView) (seats : List SharedView)
 -- ---- promises
 
 -- a promise of a worker, in its own words
-pub record IsPromise {Queue : Type 0} (queue its_queue : Queue) (jobs its_jobs : List Job)
-    (cache its_cache : CacheView) : Type 0 where
+pub record IsPromise {Queue Gate : Type 0} (queue its_queue : Queue) (jobs its_jobs : List Job)
+    (cache its_cache : CacheView) (gate its_gate : Gate) : Type 0 where
   pub queue_is : its_queue ≡ queue
   pub jobs_are : its_jobs ≡ jobs
   pub cache_is : its_cache ≡ cache
+  pub gate_is : its_gate ≡ gate

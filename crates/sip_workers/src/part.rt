@@ -61,13 +61,14 @@ fn more<'a, J: Dealt, R: Wait, W: Wire + Drop, C: Clock, G: Gate>(
     jobs: &'a [Job],
 ) -> Reports<'a>
     requires made_here { Belongs plan.now.cache.now worker.old }
-    requires here { IfOk made (λ all. All (IsReport W.gives C.shows plan.now.cache.now) all.items) }
+    requires here { IfOk made (λ all. All (IsReport W.gives C.shows plan.now.cache.now
+        (G.told plan.now.gate.now)) all.items) }
     ensures made_here { Belongs plan.now.cache.now worker.new }
     ensures stored { StoresReplies W.gives C.shows worker.old.seat worker.new.seat }
     ensures jobs { IfOk result (λ after. IsOkAnd made.entry (λ before.
         map job_in after.items ≡ map job_in before.items ++ jobs.now)) }
-    ensures here { IfOk result
-        (λ all. All (IsReport W.gives C.shows plan.now.cache.now) all.items) }
+    ensures here { IfOk result (λ all. All (IsReport W.gives C.shows plan.now.cache.now
+        (G.told plan.now.gate.now)) all.items) }
 {
     let mut all = made?;
     let results = worker.batch(rt, plan.cache, jobs, plan.clock, plan.gate)?;
@@ -91,7 +92,7 @@ fn work_off<'a, J: Dealt, R: Wait, W: Wire + Drop, C: Clock, G: Gate>(
     ensures queue { IsSeatAt (sends_on plan.now.queue.now.sender) result.right }
     ensures taken { IsTaken (view result.right) result.ended }
     ensures made { IfOk result.made (λ all.
-        AreTaken W.gives C.shows plan.now.cache.now plan.now.jobs.now
+        AreTaken W.gives C.shows plan.now.cache.now (G.told plan.now.gate.now) plan.now.jobs.now
         (view result.right) all.items) }
     ensures seat { IsSomeAnd result.seat
         (ComesHome W.gives C.shows plan.now.cache.now worker) }
@@ -164,7 +165,7 @@ pub(crate) fn work<'a, J: Dealt, R: Wait, W: Wire + Drop, C: Clock, G: Gate>(
     ensures queue { IsSeatAt (sends_on plan.now.queue.now.sender) result.right }
     ensures taken { IsTaken (view result.right) result.ended }
     ensures made { IfOk result.made (λ all.
-        AreTaken W.gives C.shows plan.now.cache.now plan.now.jobs.now
+        AreTaken W.gives C.shows plan.now.cache.now (G.told plan.now.gate.now) plan.now.jobs.now
         (view result.right) all.items) }
     ensures seat { OnOk result.made (IsSomeAnd result.seat
         (ComesHome W.gives C.shows plan.now.cache.now seat)) }

@@ -4,6 +4,7 @@ ghost use Rattle.std.specs.List.{All, AllZip};
 ghost use Rattle.crossbeam_channel.specs.Claims.{IsSeatAt, view};
 ghost use Rattle.crossbeam_channel.specs.Ends.{sends_on};
 ghost use Rattle.answer_cache.specs.Shared.{Belongs, SharedView};
+ghost use Rattle.sip_worker.specs.Gates.{IsToldOf};
 ghost use Rattle.sip_workers.specs.Deals.{AreSized, ComesHome, EachOnce, IsCut, IsReport};
 ghost use Rattle.sip_workers.specs.Rules.{all_parts, pass_view};
 ghost use Rattle.sip_workers.specs.Runs.{AreMade, HaveOneHistory, MayRun, RefusesRun, Rises};
@@ -96,8 +97,8 @@ fn deal_out<
     requires fresh { view own ≡ pass_view true all_parts [] [] }
     requires batches { plan.now.batches.now ≡ J.batches }
     requires cut { IsCut plan.now.jobs.now (length plan.now.jobs.now) J.batches }
-    ensures told { IfOk result (λ it.
-        All (IsReport W.gives C.shows plan.now.cache.now) it.0.reports.items) }
+    ensures told { IfOk result (λ it. All (IsReport W.gives C.shows plan.now.cache.now
+        (G.told plan.now.gate.now)) it.0.reports.items) }
     ensures once { IfOk result (λ it.
         IsTrue it.1 → EachOnce plan.now.jobs.now it.0.reports.items) }
     ensures seats { IfOk result (λ it.
@@ -119,18 +120,20 @@ fn deal_out<
 
 /// What became of each job, in order, over one history of the seats that come home. Where the queue
 /// failed nowhere, each job has one result, and memory alone can be wanted.
-fn put_in_order<J: Dealt, W: Wire + Drop, C: Clock, G>(
+fn put_in_order<J: Dealt, W: Wire + Drop, C: Clock, G: Gate>(
     plan: &Plan<'_, J, C, G>,
     home: Home<'_>,
     whole: bool,
 ) -> Result<Vec<(Outcome, Notice)>, RunRefusal>
     requires rises { Rises plan.now.jobs.now }
-    requires told { All (IsReport W.gives C.shows plan.now.cache.now) home.reports.items }
+    requires told { All (IsReport W.gives C.shows plan.now.cache.now
+        (G.told plan.now.gate.now)) home.reports.items }
     requires once { IsTrue whole → EachOnce plan.now.jobs.now home.reports.items }
     requires some { 0 < length home.seats.items }
     requires here { All (Belongs plan.now.cache.now) home.seats.items }
     ensures outcomes { IfOk result (λ made.
         AreMade W.gives C.shows plan.now.cache.now plan.now.jobs.now made.items) }
+    ensures gate { IfOk result (λ _. All (IsToldOf (G.told plan.now.gate.now)) plan.now.jobs.now) }
     ensures refused { IfErr result (RefusesRun ⊤) }
     ensures memory { IsTrue whole → IfErr result (λ refusal. refusal ≡ Memory) }
     ensures one_history { (firsts : List SharedView)
@@ -171,6 +174,7 @@ fn run_plan<
         AreMade W.gives C.shows plan.now.cache.now plan.now.jobs.now made.items) }
     ensures one_history { IfOk result (λ made.
         HaveOneHistory W.gives C.shows plan.now.cache.now seats.items made.items) }
+    ensures gate { IfOk result (λ _. All (IsToldOf (G.told plan.now.gate.now)) plan.now.jobs.now) }
     ensures refused { IfErr result (RefusesRun ⊤) }
 {
     thread::scope(
@@ -187,6 +191,8 @@ fn run_plan<
                 plan.entry.now.cache.now plan.entry.now.jobs.now made.items) }
             ensures one_history { IfOk result (λ made. HaveOneHistory W.gives C.shows
                 plan.entry.now.cache.now seats.items made.items) }
+            ensures gate { IfOk result (λ _.
+                All (IsToldOf (G.told plan.entry.now.gate.now)) plan.entry.now.jobs.now) }
             ensures refused { IfErr result (RefusesRun ⊤) }
         {
             let (home, whole) = deal_out::<_, J, R, W, C, G>(scope, rt, plan, own, seats, wires)?;
@@ -223,6 +229,7 @@ fn run_batches<
         AreMade W.gives C.shows cache.now jobs.now made.items) }
     ensures one_history { IfOk result (λ made.
         HaveOneHistory W.gives C.shows cache.now seats.items made.items) }
+    ensures gate { IfOk result (λ _. All (IsToldOf (G.told gate.now)) jobs.now) }
     ensures refused { IfErr result (RefusesRun ⊤) }
 {
     let (queue, own) = Queue::<J>::new(alloc, seats.len())?;
@@ -245,7 +252,8 @@ fn run_batches<
 /// one. The result has what became of each job, in order, with its worker's notice taken then. What
 /// the notices tell is of one history. Of each seat it has the stores that the seat had made, and
 /// then answers of replies alone, once each and in the order in which the seat stored them. The
-/// seats and the wires are given up in each case.
+/// gate is told of each job that it begins, and that it has its outcome. The seats and the wires
+/// are given up in each case.
 ///
 /// `BadCount` exactly where there are no seats or not as many wires as seats, a batch is not of 1
 /// to 8 jobs, the numbers of the jobs do not rise strictly, or there are over 10,000 jobs;
@@ -273,6 +281,7 @@ pub fn run_workers<
         (MayRun (length seats.items) (length wires.items) jobs.items batch) }
     ensures refused { IfErr result (RefusesRun
         (MayRun (length seats.items) (length wires.items) jobs.items batch)) }
+    ensures gate { IfOk result (λ _. All (IsToldOf (G.told gate.now)) jobs.items) }
     ensures outcomes { IfOk result (λ made.
         AreMade W.gives C.shows cache.now jobs.items made.items) }
     ensures one_history { IfOk result (λ made.

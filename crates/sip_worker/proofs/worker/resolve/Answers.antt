@@ -1,6 +1,6 @@
 use Rattle.std.proofs.Common.{refl, ◌∙◌}
+use Rattle.sip_worker.proofs.Reporting.{all-told, reported-none, reported-same}
 use Rattle.sip_worker.proofs.Standing.{works-not, works-through}
-use Rattle.sip_worker.proofs.worker.resolve.Goals.{in-None, in-Some+then-is_done}
 use Rattle.sip_worker.proofs.worker.resolve.Goals as goal
 
 pub rounds-init : goal.rounds-init
@@ -9,6 +9,7 @@ rounds-init g c = record {
   works = works-not _ _ c.args.seat.now.seat;
   jobs = refl;
   stands = c.requires.stands;
+  reported = reported-none _ _ _ _ c.requires.none;
 }
 
 pub rounds-preserved : goal.rounds-preserved
@@ -19,11 +20,13 @@ rounds-preserved g c =
       works = works-through _ _ _ _ _ so-far.works (works-through _ _ _ _ _ c.advance.ensures.works c.listen.ensures.works);
       jobs = c.listen.ensures.jobs ∙ c.advance.ensures.jobs ∙ so-far.jobs;
       stands = c.listen.ensures.stands;
+      reported = rw (c.listen.ensures.jobs, c.listen.ensures.begun)
+          (reported-same _ _ _ _ _ c.listen.ensures.same.1 (c.advance.ensures.reported so-far.reported));
     }
 
-pub returns-clause-works : goal.returns-clause-works
-returns-clause-works g c =
-    elim c.match-next.branch [
-      | in-None w ↦ rw w.seat-is c.rounds.invariant.works
-      | in-Some+then-is_done w ↦ rw w.seat-is (works-through _ _ _ _ _ c.rounds.invariant.works w.advance.ensures.works)
-    ]
+pub returns-then-is_done-clause-works : goal.returns-then-is_done-clause-works
+returns-then-is_done-clause-works g c = works-through _ _ _ _ _ c.rounds.invariant.works c.advance.ensures.works
+
+pub returns-then-is_done-clause-told : goal.returns-then-is_done-clause-told
+returns-then-is_done-clause-told g c =
+    all-told _ _ (c.is_done.ensures c.if-is_done.true) (c.advance.ensures.reported c.rounds.invariant.reported)

@@ -31,7 +31,8 @@ batches-preserved g c =
       made_here = c.more-made.ensures.made_here;
       stored = stores-more g.W.Wire.gives g.C.Clock.shows c.args.worker.seat l.worker.seat c.more-made.new.worker.seat
           l.invariant.stored c.more-made.ensures.stored;
-      made = taken-more g.W.Wire.gives g.C.Clock.shows plan.cache.now plan.jobs.now (λ all. all.items) known now batch took
+      made = taken-more g.W.Wire.gives g.C.Clock.shows plan.cache.now (g.G.Gate.told plan.gate.now) plan.jobs.now
+          (λ all. all.items) known now batch took
           c.jobs_at.result.now c.jobs_at.ensures l.made c.more-made.result l.invariant.made c.more-made.ensures.jobs
           c.more-made.ensures.here;
       none = l.invariant.none;
@@ -47,6 +48,6 @@ returns-clause-made g c =
       | in-Some+in-Some-take+then-batch-eq0 w ↦
           let took = ap (λ (v : PassView). v.taken) w.in-Some-take.ensures.taken.0 in
           rw w.right-is
-          (taken-end g.W.Wire.gives g.C.Clock.shows plan.cache.now plan.jobs.now (λ all. all.items) (view l.right)
+          (taken-end g.W.Wire.gives g.C.Clock.shows plan.cache.now (g.G.Gate.told plan.gate.now) plan.jobs.now (λ all. all.items) (view l.right)
           (view w.take.new.right) w.in-Some-take.batch took w.if-batch-eq0.true l.made l.invariant.made)
     ]

@@ -11,6 +11,7 @@ invariant-batches g l = record {
   one : (view l.right).parts ≡ 1;
   made_here : Belongs l.plan.cache.now l.worker;
   stored : StoresReplies g.W.Wire.gives g.C.Clock.shows l.fn.worker.seat l.worker.seat;
-  made : IfOk l.made (λ all. AreTaken g.W.Wire.gives g.C.Clock.shows l.plan.cache.now l.plan.jobs.now (view l.right) all.items);
+  made : IfOk l.made (λ all. AreTaken g.W.Wire.gives g.C.Clock.shows l.plan.cache.now (g.G.Gate.told l.plan.gate.now) l.plan.jobs.now
+      (view l.right) all.items);
   none : l.ended ≡ false;
 }

@@ -1,6 +1,6 @@
 use Rattle.std.proofs.Common.{◌≡◌, ap, rules}
 use Rattle.sip_workers.proofs.Learning.{made-here}
-use Rattle.sip_workers.proofs.Once.{gathered-made, only-memory}
+use Rattle.sip_workers.proofs.Once.{gathered-made, gathered-told, only-memory}
 use Rattle.sip_workers.proofs.Storing.{all-have-stores}
 use Rattle.sip_workers.specs.Deals.{EachOnce}
 use Rattle.sip_workers.specs.Runs.{of_gather}
@@ -21,7 +21,8 @@ returns-in_err-made-clause-memory g c = λ whole.
 
 pub returns-clause-outcomes : goal.returns-clause-outcomes
 returns-clause-outcomes g c =
-    gathered-made g.W.Wire.gives g.C.Clock.shows c.args.plan.now.cache.now c.in_ok-results.results.items
+    gathered-made g.W.Wire.gives g.C.Clock.shows c.args.plan.now.cache.now (g.G.Gate.told c.args.plan.now.gate.now)
+    c.in_ok-results.results.items
     (rw c.in_ok-results.ensures c.requires.told) c.args.plan.now.jobs.now c.in_ok-made.made.items c.in_ok-made.ensures.made
 
 pub see_one_history-requires-clause-told_here : goal.see_one_history-requires-clause-told_here
@@ -33,7 +34,8 @@ see_one_history-requires-clause-told_here g c =
     let made = c.in_ok-made.made.items in
     rw c.as_slice.ensures.value
     (made-here gives shows cache jobs made
-    (gathered-made gives shows cache c.in_ok-results.results.items (rw c.in_ok-results.ensures c.requires.told) jobs made
+    (gathered-made gives shows cache (g.G.Gate.told c.args.plan.now.gate.now) c.in_ok-results.results.items
+    (rw c.in_ok-results.ensures c.requires.told) jobs made
     c.in_ok-made.ensures.made))
 
 pub returns-clause-one_history : goal.returns-clause-one_history
@@ -46,3 +48,9 @@ returns-clause-one_history g c = λ firsts come.
       stores = all-have-stores g.W.Wire.gives g.C.Clock.shows c.args.plan.now.cache.now it.history firsts
           c.args.home.seats.items come it.whole;
     })
+
+pub returns-clause-gate : goal.returns-clause-gate
+returns-clause-gate g c =
+    gathered-told g.W.Wire.gives g.C.Clock.shows c.args.plan.now.cache.now (g.G.Gate.told c.args.plan.now.gate.now)
+    c.in_ok-results.results.items (rw c.in_ok-results.ensures c.requires.told) c.args.plan.now.jobs.now c.in_ok-made.made.items
+    c.in_ok-made.ensures.made

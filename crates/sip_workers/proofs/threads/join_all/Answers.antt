@@ -17,7 +17,8 @@ threads-preserved g c =
       deals = c.join_one.ensures.stays.0 ∙ l.invariant.deals;
       put = c.join_one.ensures.stays.1 ∙ l.invariant.put;
       promised = All-tail (λ thread. IsPromise plan.queue.now thread.promise.queue.now plan.jobs.now thread.promise.jobs.now
-          plan.cache.now thread.promise.cache.now) c.in-Some.thread left (rw next at l.invariant.promised);
+          plan.cache.now thread.promise.cache.now plan.gate.now thread.promise.gate.now)
+          c.in-Some.thread left (rw next at l.invariant.promised);
       made = c.in_ok-ended.ensures.made;
       seats = joined-more g.W.Wire.gives g.C.Clock.shows plan.cache.now (λ thread. thread.promise.first.value)
           c.args.threads.items l.thread-iterator.rest.items left c.in-Some.thread l.home.seats.items

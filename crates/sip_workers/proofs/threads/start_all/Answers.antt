@@ -39,7 +39,7 @@ seats-preserved g c =
       stays = stays-cut (view c.args.own.now) (view l.own) now l.invariant.stays c.cut-right.ensures.cut.0;
       promised = rw c.push_reserved.ensures.items
           (All-push (λ thread. IsPromise plan.queue.now thread.promise.queue.now plan.jobs.now thread.promise.jobs.now
-          plan.cache.now thread.promise.cache.now)
+          plan.cache.now thread.promise.cache.now plan.gate.now thread.promise.gate.now)
           l.threads.items thread l.invariant.promised c.in-Some-start.ensures.promised);
       firsts = rw c.push_reserved.ensures.items
           (one-more-first (λ it. it.promise.first.value) l.threads.items thread c.in-Some.seat l.seat-iterator.rest.items left

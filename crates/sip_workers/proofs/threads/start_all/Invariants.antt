@@ -15,7 +15,7 @@ invariant-seats g l = record {
   more : length l.seat-iterator.rest.items < (view l.own).parts;
   stays : pass_view (view l.fn.own).deals (view l.own).parts (view l.fn.own).put (view l.fn.own).taken ≡ view l.own;
   promised : All (λ thread. IsPromise l.plan.queue.now thread.promise.queue.now l.plan.jobs.now thread.promise.jobs.now
-      l.plan.cache.now thread.promise.cache.now) l.threads.items;
+      l.plan.cache.now thread.promise.cache.now l.plan.gate.now thread.promise.gate.now) l.threads.items;
   firsts : map (λ thread. thread.promise.first.value) l.threads.items ++ l.seat-iterator.rest.items ≡ l.fn.seats.items;
   all : length l.threads.items + length l.seat-iterator.rest.items ≡ length l.fn.seats.items;
   room : length l.fn.seats.items ≤ vec_capacity l.threads;

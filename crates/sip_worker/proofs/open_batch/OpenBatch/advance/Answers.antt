@@ -1,3 +1,4 @@
+use Rattle.sip_worker.proofs.Reporting.{reported-same}
 use Rattle.sip_worker.proofs.Telling.{told-later}
 use Rattle.sip_worker.proofs.open_batch.OpenBatch.advance.Goals as goal
 
@@ -9,3 +10,8 @@ returns-clause-stands g c =
       requests = c.send_all.ensures.stand;
       told = told-later _ _ c.args.seat.now.seat c.send_all.new.seat.seat c.send_all.ensures.works _ _ begun.told;
     })
+
+pub returns-clause-reported : goal.returns-clause-reported
+returns-clause-reported g c = λ before.
+    (let begun = rw (← c.self.view_is) at c.begin_all.ensures.reported before in
+    c.take_all.ensures.reported (reported-same _ _ _ _ _ c.send_all.ensures.same.1 begun))
