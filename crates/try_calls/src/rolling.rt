@@ -1,7 +1,7 @@
 //! Calls of `rolling_cache`.
 ghost use Rattle.std.specs.Prelude.{IfSome};
 ghost use Rattle.std.specs.List.{All};
-ghost use Rattle.rolling_cache.specs.Rolling.{IsAt, IsFirst, IsFresh};
+ghost use Rattle.rolling_cache.specs.Rolling.{IsAt, IsSeatOf};
 
 use crate::books::{
     DatedQuestion, book_line, found, lookup_of, push_found, push_seats, reply_stored,
@@ -72,11 +72,12 @@ fn counts(output: &mut Output, line: &str) {
 }
 
 /// The last of the seats of a new cache.
-fn last_of(seats: &mut Vec<RollingSeat>) -> Option<RollingSeat>
-    requires { All IsFirst seats.old.items }
-    ensures left { All IsFirst seats.new.items }
-    ensures last { IfSome result IsFirst }
+fn last_of(cache: &RollingCache, seats: &mut Vec<RollingSeat>) -> Option<RollingSeat>
+    requires { All (IsSeatOf cache.now) seats.old.items }
+    ensures left { All (IsSeatOf cache.now) seats.new.items }
+    ensures last { IfSome result (IsSeatOf cache.now) }
 {
+    let _ = cache;
     seats.pop()
 }
 
@@ -85,12 +86,12 @@ fn two_of(
     cache: RollingCache,
     mut seats: Vec<RollingSeat>,
 ) -> Option<(RollingCache, RollingSeat, RollingSeat)>
-    requires { All IsFirst seats.items }
-    ensures first { IfSome result (λ made. IsAt made.1) }
-    ensures second { IfSome result (λ made. IsAt made.2) }
+    requires { All (IsSeatOf cache) seats.items }
+    ensures first { IfSome result (λ made. IsSeatOf made.0 made.1) }
+    ensures second { IfSome result (λ made. IsSeatOf made.0 made.2) }
 {
-    let second = last_of(&mut seats);
-    let first = last_of(&mut seats);
+    let second = last_of(&cache, &mut seats);
+    let first = last_of(&cache, &mut seats);
     drop(seats);
     match (first, second) {
         (Some(first), Some(second)) => Some((cache, first, second)),
@@ -105,8 +106,8 @@ fn two_of(
 
 /// A cache with two seats, made at a moment.
 fn two_seats(alloc: Global, now: Moment) -> Option<(RollingCache, RollingSeat, RollingSeat)>
-    ensures first { IfSome result (λ made. IsAt made.1) }
-    ensures second { IfSome result (λ made. IsAt made.2) }
+    ensures first { IfSome result (λ made. IsSeatOf made.0 made.1) }
+    ensures second { IfSome result (λ made. IsSeatOf made.0 made.2) }
 {
     match RollingCache::new(alloc, 2, now) {
         Ok((cache, seats)) => two_of(cache, seats),
@@ -121,8 +122,8 @@ fn catch_up<R: Wait>(
     seat: &mut RollingSeat,
     now: Moment,
 ) -> Option<Change>
-    requires { IsAt seat.old }
-    ensures { IsAt seat.new }
+    requires { IsSeatOf cache.now seat.old }
+    ensures { IsSeatOf cache.now seat.new }
 {
     match cache.catch_up(rt, seat, now) {
         Ok(change) => Some(change),
@@ -137,8 +138,8 @@ fn renew<R: Wait>(
     seat: &mut RollingSeat,
     now: Moment,
 ) -> Option<Change>
-    requires { IsAt seat.old }
-    ensures { IsAt seat.new }
+    requires { IsSeatOf cache.now seat.old }
+    ensures { IsSeatOf cache.now seat.new }
 {
     match cache.renew(rt, seat, now) {
         Ok(change) => Some(change),
@@ -163,8 +164,8 @@ fn change<R: Wait>(
     is_renewal: bool,
     now: &str,
 )
-    requires { IsAt seat.old }
-    ensures { IsAt seat.new }
+    requires { IsSeatOf cache.now seat.old }
+    ensures { IsSeatOf cache.now seat.new }
 {
     match moment(now) {
         Ok(now) if is_renewal => push_change(output, renew(rt, cache, seat, now)),
@@ -229,8 +230,8 @@ fn seat_line<R: Wait>(
     seat: &mut RollingSeat,
     line: &str,
 )
-    requires { IsAt seat.old }
-    ensures { IsAt seat.new }
+    requires { IsSeatOf cache.now seat.old }
+    ensures { IsSeatOf cache.now seat.new }
 {
     let (word, rest) = split_word(line);
     match word {
@@ -251,10 +252,10 @@ fn two_seat_line<R: Wait>(
     second: &mut RollingSeat,
     line: &str,
 )
-    requires first { IsAt first.old }
-    requires second { IsAt second.old }
-    ensures first { IsAt first.new }
-    ensures second { IsAt second.new }
+    requires first { IsSeatOf cache.now first.old }
+    requires second { IsSeatOf cache.now second.old }
+    ensures first { IsSeatOf cache.now first.new }
+    ensures second { IsSeatOf cache.now second.new }
 {
     let (number, line) = split_word(line);
     match number {
@@ -273,8 +274,8 @@ fn two_talk<R: Wait>(
     mut second: RollingSeat,
     input: &str,
 )
-    requires first { IsAt first }
-    requires second { IsAt second }
+    requires first { IsSeatOf cache.now first }
+    requires second { IsSeatOf cache.now second }
 {
     'lines: for line in input.lines() {
         two_seat_line(rt, output, cache, &mut first, &mut second, line);
@@ -325,8 +326,8 @@ fn count_store<R: Wait>(
     now: Moment,
     counts: &mut Tally,
 )
-    requires { IsAt seat.old }
-    ensures { IsAt seat.new }
+    requires { IsSeatOf cache.now seat.old }
+    ensures { IsSeatOf cache.now seat.new }
 {
     counts.missed = counts.missed.wrapping_add(1);
     if let Some(Err(_)) = reply_stored(rt, cache, seat, reply, now) {
@@ -348,8 +349,8 @@ fn is_found(
     question: &Question,
     now: Moment,
 ) -> Result<bool, AllocError>
-    requires { IsAt seat.old }
-    ensures { IsAt seat.new }
+    requires { IsSeatOf cache.now seat.old }
+    ensures { IsSeatOf cache.now seat.new }
 {
     match found(cache, seat, question, now) {
         Ok(answer) => Ok(answer.is_some()),
@@ -366,8 +367,8 @@ fn ask<R: Wait>(
     now: Moment,
     counts: &mut Tally,
 )
-    requires { IsAt seat.old }
-    ensures { IsAt seat.new }
+    requires { IsSeatOf cache.now seat.old }
+    ensures { IsSeatOf cache.now seat.new }
 {
     count_change(catch_up(rt, cache, seat, now), counts);
     match is_found(cache, seat, &reply.question, now) {
@@ -393,7 +394,7 @@ fn ask_all<R: Wait>(
     times: u64,
     a_second: u64,
 ) -> Tally
-    requires { IsAt seat.old }
+    requires { IsSeatOf cache.now seat.old }
 {
     let mut counts = Tally {
         found: 0,
@@ -449,7 +450,7 @@ fn asking_of(alloc: Global, line: &str) -> Result<Asking, Fault> {
 
 /// The counts of a cache, of which one answer is asked so many times.
 fn tallied<R: Wait>(rt: &R, cache: &RollingCache, mut seat: RollingSeat, asking: &Asking) -> Tally
-    requires { IsAt seat }
+    requires { IsSeatOf cache.now seat }
 {
     let counts = ask_all(
         rt,
@@ -465,7 +466,7 @@ fn tallied<R: Wait>(rt: &R, cache: &RollingCache, mut seat: RollingSeat, asking:
 
 /// A seat of a new cache, with that cache and its other seat.
 fn started(alloc: Global) -> Option<(RollingCache, RollingSeat, RollingSeat)>
-    ensures { IfSome result (λ made. IsAt made.1) }
+    ensures { IfSome result (λ made. IsSeatOf made.0 made.1) }
 {
     two_seats(alloc, start()?)
 }

@@ -4,7 +4,7 @@ ghost use Rattle.std.specs.Arc.{arc_value};
 ghost use Rattle.std.specs.List.{All};
 ghost use Rattle.dns_answers.specs.Records.{kind_of};
 ghost use Rattle.dns_message.specs.declared.kind.Kind.TheVariants.{A};
-ghost use Rattle.rolling_cache.specs.Rolling.{IsAt, IsFirst};
+ghost use Rattle.rolling_cache.specs.Rolling.{IsSeatOf, RollingView};
 
 use crate::seats::question;
 use answer_cache::{AnswerBook, Stores};
@@ -83,8 +83,8 @@ fn found<R: Wait>(
     question: &Question,
     now: Moment,
 ) -> Option<Option<Arc<Answer>>>
-    requires { IsAt seat.old }
-    ensures { IsAt seat.new }
+    requires { IsSeatOf cache.now seat.old }
+    ensures { IsSeatOf cache.now seat.new }
 {
     match cache.catch_up(rt, seat, now) {
         Ok(_) => cache.lookup(seat, question, now).ok(),
@@ -102,9 +102,9 @@ fn store<R: Wait>(
     answer: &Arc<Answer>,
     now: Moment,
 ) -> bool
-    requires at { IsAt seat.old }
+    requires at { IsSeatOf cache.now seat.old }
     requires kind { kind_of (arc_value answer.now).records ≡ question.now.kind }
-    ensures { IsAt seat.new }
+    ensures { IsSeatOf cache.now seat.new }
 {
     cache.store(rt, seat, question, answer, now).is_ok()
 }
@@ -120,9 +120,9 @@ fn ask<R: Wait>(
     now: Moment,
     met: &mut Met,
 ) -> Option<()>
-    requires at { IsAt seat.old }
+    requires at { IsSeatOf cache.now seat.old }
     requires kind { question.now.kind ≡ A }
-    ensures { IsAt seat.new }
+    ensures { IsSeatOf cache.now seat.new }
 {
     if let Some(found) = found(rt, cache, seat, question, now)? {
         met.wrong = met
@@ -147,8 +147,8 @@ fn ask_name<R: Wait>(
     now: Moment,
     met: &mut Met,
 ) -> Option<()>
-    requires { IsAt seat.old }
-    ensures { IsAt seat.new }
+    requires { IsSeatOf cache.now seat.old }
+    ensures { IsSeatOf cache.now seat.new }
 {
     match questions.get(usize::from(name)) {
         Some(question) if question.kind == Kind::A => {
@@ -167,7 +167,7 @@ fn ask_all<R: Wait>(
     questions: &[Question],
     first: u64,
 ) -> Option<Met>
-    requires { IsAt seat.old }
+    requires { IsSeatOf cache.now seat.old }
 {
     let mut met = Met {
         stored: 0,
@@ -186,9 +186,12 @@ fn ask_all<R: Wait>(
 
 /// What a thread does with its seat.
 trait Work {
+    // The seats that it works with.
+    ghost takes: { Self → RollingView → Type 0 };
+
     /// What it met.
     fn work<R: Wait + AllocGlobal>(&self, rt: &R, seat: RollingSeat) -> Option<Met>
-        requires { IsFirst seat };
+        requires { takes self.now seat };
 }
 
 /// A cache, what is asked of it, and where the next thread begins.
@@ -200,8 +203,12 @@ struct Load<'a> {
 }
 
 impl Work for Load<'_> {
+    ghost use Rattle.rolling_cache.specs.Rolling.{IsSeatOf};
+
+    ghost takes = { λ load seat. IsSeatOf load.cache.now seat };
+
     fn work<R: Wait + AllocGlobal>(&self, rt: &R, seat: RollingSeat) -> Option<Met>
-        requires { IsFirst seat }
+        requires { IsSeatOf self.now.cache.now seat }
     {
         let mut seat = seat;
         let first = self.first.fetch_add(500, Ordering::SeqCst);
@@ -229,10 +236,10 @@ fn all_met<R: Threads + Wait + AllocGlobal + Sync, W: Work + Sync>(
     load: &W,
     seats: Vec<RollingSeat>,
 ) -> Option<Met>
-    requires { All IsFirst seats.items }
+    requires { All (W.takes load.now) seats.items }
 {
     let job = |seat: RollingSeat| -> Option<Met>
-        requires { IsFirst seat }
+        requires { W.takes load.now seat }
     { load.work(rt, seat) };
     match map_vec(rt, seats, &job) {
         Ok(met) => sum(&met),
@@ -246,7 +253,7 @@ fn load_met<R: Threads + Wait + AllocGlobal + Sync>(
     load: &Load<'_>,
     seats: Vec<RollingSeat>,
 ) -> Option<Met>
-    requires { All IsFirst seats.items }
+    requires { All (IsSeatOf load.now.cache.now) seats.items }
 {
     all_met(rt, load, seats)
 }

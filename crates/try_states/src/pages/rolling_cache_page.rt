@@ -2,7 +2,7 @@
 ghost use Rattle.std.specs.Prelude.{◌≡◌, IfSome};
 ghost use Rattle.std.specs.Arc.{arc_value};
 ghost use Rattle.dns_answers.specs.Records.{kind_of};
-ghost use Rattle.rolling_cache.specs.Rolling.{IsAt};
+ghost use Rattle.rolling_cache.specs.Rolling.{IsSeatOf};
 
 use crate::pages::answers::{answer, question};
 use answer_cache::{AnswerBook, Stores};
@@ -21,9 +21,9 @@ fn between_requests(
     answer: &Arc<Answer>,
     now: Moment,
 ) -> Option<u32>
-    requires at { IsAt seat.old }
+    requires at { IsSeatOf cache.now seat.old }
     requires kind { kind_of (arc_value answer.now).records ≡ question.now.kind }
-    ensures { IsAt seat.new }
+    ensures { IsSeatOf cache.now seat.new }
 {
     // before a request: go over to the present generation, or begin the next one
     cache.catch_up(rt, seat, now).ok()?;
@@ -37,15 +37,15 @@ fn between_requests(
 
 /// Whether the next generation was begun.
 fn is_renewed(rt: &impl Wait, cache: &RollingCache, seat: &mut RollingSeat, now: Moment) -> bool
-    requires { IsAt seat.old }
-    ensures { IsAt seat.new }
+    requires { IsSeatOf cache.now seat.old }
+    ensures { IsSeatOf cache.now seat.new }
 {
     matches!(cache.renew(rt, seat, now), Ok(Change::Renewed))
 }
 
 /// A cache of two seats, and the last of them.
 fn one_of_two(alloc: Global, begin: Moment) -> Option<(RollingCache, RollingSeat)>
-    ensures { IfSome result (λ made. IsAt made.1) }
+    ensures { IfSome result (λ made. IsSeatOf made.0 made.1) }
 {
     let Ok((cache, mut seats)) = RollingCache::new(alloc, 2, begin) else {
         return None;
@@ -65,7 +65,7 @@ fn found_at(
     answer: &Arc<Answer>,
     moments: [Moment; 4],
 ) -> Option<[Option<u32>; 4]>
-    requires at { IsAt seat.old }
+    requires at { IsSeatOf cache.now seat.old }
     requires kind { kind_of (arc_value answer.now).records ≡ question.now.kind }
 {
     let [first, second, third, fourth] = moments;
