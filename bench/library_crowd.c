@@ -1,6 +1,7 @@
 /* What one request costs the C library among many: so many are inside, each waits for the address of a host of its own, and in
  * each step one more comes in, the query that can be sent is sent, the reply to the query sent first comes in, and its request
- * ends. It prints lines of how many are inside, a tab and the nanoseconds of a step: the least of many slices. */
+ * ends. And what a call of wokhleas_cancel costs for the request that came in first. It prints lines of how many are inside, a
+ * tab, the nanoseconds of a step, a tab and those of a cancellation: the least of many slices each. */
 #include "../c/tests/harness.h"
 
 #include <stdio.h>
@@ -83,9 +84,32 @@ static double step_among(size_t inside) {
     return least;
 }
 
+/* The nanoseconds of a cancellation, where so many are inside before it; another one comes in after it. */
+static double cancel_among(size_t inside) {
+    wokhleas_resolver resolver = WOKHLEAS_RESOLVER_INIT;
+    double least = 1e18;
+    first_sent = next_sent = 0;
+    if (open_resolver(&resolver, MOST + 1, SENT, true) != WOKHLEAS_OK) abort();
+    for (size_t at = 0; at < inside; at++) submit_one(&resolver);
+    send_all(&resolver);
+    for (int slice = 0; slice < SLICES; slice++) {
+        double gone = 0;
+        for (int at = 0; at < SLICE; at++) {
+            double begun = nanoseconds();
+            if (wokhleas_cancel(&resolver, submitted - inside) != WOKHLEAS_OK) abort();
+            gone += nanoseconds() - begun;
+            submit_one(&resolver);
+            send_all(&resolver);
+        }
+        if (gone / SLICE < least) least = gone / SLICE;
+    }
+    wokhleas_close(&resolver);
+    return least;
+}
+
 int main(void) {
     static const size_t insides[] = { 10, 100, 1000, 4000, MOST };
     for (size_t at = 0; at < sizeof insides / sizeof *insides; at++)
-        printf("%zu\t%.0f\n", insides[at], step_among(insides[at]));
+        printf("%zu\t%.0f\t%.0f\n", insides[at], step_among(insides[at]), cancel_among(insides[at]));
     return 0;
 }

@@ -7,6 +7,7 @@ use Rattle.logbook.proofs.tokens.Seen.TheSendSync as seen
 use Rattle.boxcar.proofs.slot.OnceSlot.TheSendSync as slot
 use Rattle.boxcar.proofs.slot.Written.TheSendSync as written
 use Rattle.boxcar.proofs.tag.Tag.TheSendSync as tag
+use Rattle.counted_slot.proofs.Counted.TheSendSync as counted
 use Rattle.answer_log.proofs.tally.Tally.TheSendSync as tally
 use Rattle.answer_log.proofs.spent.Spent.TheLaws.TheKnot.{send-Spent}
 use Rattle.answer_cache.proofs.notes.Notes.TheLaws.TheKnot.{send-Notes}
@@ -15,7 +16,7 @@ use Rattle.answer_cache.specs.contracts.seat.Seat as Seat
 use Rattle.answer_cache.specs.contracts.shared_cache.SharedCache as SharedCache
 use Rattle.rolling_cache.proofs.lineage.Lineage.TheLaws.TheKnot.{send-Lineage, sync-Lineage}
 use Rattle.rolling_cache.specs.contracts.generation.Generation as Generation
-use Rattle.rolling_cache.specs.contracts.generation.Present as Present
+use Rattle.rolling_cache.specs.contracts.present.Present as Present
 use Rattle.rolling_cache.specs.contracts.rolling.RollingCache as RollingCache
 use Rattle.rolling_cache.specs.contracts.seat.RollingSeat as RollingSeat
 use Rattle.sip_resolver.specs.contracts.facts.NoFacts as NoFacts
@@ -63,7 +64,7 @@ present_send : IsSend Present.the_row
 present_send = search (sendable, crosses, generation_send, generation_sync, place_send) depth 100 fits 100000
 
 pub rolling_send : IsSend RollingCache.the_row
-rolling_send = search (sendable, crosses, present_send) depth 20
+rolling_send = search (sendable, crosses, counted.the_send, present_send) depth 20
 
 pub seat_send : IsSend RollingSeat.the_row
 seat_send = search (sendable, crosses, generation_send, generation_sync, place_send) depth 100 fits 100000

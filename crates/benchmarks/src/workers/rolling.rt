@@ -3,7 +3,7 @@
 ghost use Rattle.std.specs.Prelude.{⊤, IfSome};
 ghost use Rattle.std.specs.List.{All};
 ghost use Rattle.answer_cache.specs.Seats.{SeatView};
-ghost use Rattle.rolling_cache.specs.Rolling.{IsAt, IsFirst};
+ghost use Rattle.rolling_cache.specs.Rolling.{IsSeatOf, RollingView};
 ghost use Rattle.sip_resolver.specs.Requests.{Stand};
 
 use crate::workers::jobs::job_of;
@@ -71,9 +71,9 @@ fn next_reply(
     seat: &mut RollingSeat,
     now: Moment,
 ) -> Option<Vec<u8>>
-    requires at { IsAt seat.old }
+    requires at { IsSeatOf cache.now seat.old }
     requires stand { Stand (λ _. ⊤) (λ _. ⊤) seat.old.seat.seat resolver.old.requests }
-    ensures at { IsAt seat.new }
+    ensures at { IsSeatOf cache.now seat.new }
     ensures stand { Stand (λ _. ⊤) (λ _. ⊤) seat.new.seat.seat resolver.new.requests }
 {
     let transmit = resolver.poll_transmit(cache, seat, now, now)?;
@@ -89,9 +89,9 @@ fn drive<R: Wait + AllocGlobal>(
     seat: &mut RollingSeat,
     now: Moment,
 ) -> Option<u64>
-    requires at { IsAt seat.old }
+    requires at { IsSeatOf cache.now seat.old }
     requires stand { Stand (λ _. ⊤) (λ _. ⊤) seat.old.seat.seat resolver.old.requests }
-    ensures at { IsAt seat.new }
+    ensures at { IsSeatOf cache.now seat.new }
     ensures stand { Stand (λ _. ⊤) (λ _. ⊤) seat.new.seat.seat resolver.new.requests }
 {
     let mut sent = 0_u64;
@@ -178,9 +178,9 @@ fn resolve_with<R: Wait + AllocGlobal>(
     now: Moment,
     first: u64,
 ) -> Option<Counted>
-    requires at { IsAt seat.old }
+    requires at { IsSeatOf cache.now seat.old }
     requires stand { Stand (λ _. ⊤) (λ _. ⊤) seat.old.seat.seat resolver.old.requests }
-    ensures { IsAt seat.new }
+    ensures { IsSeatOf cache.now seat.new }
 {
     submit_batch(rt.alloc(), resolver, first)?;
     let sent = drive(rt, zone, resolver, cache, seat, now)?;
@@ -201,8 +201,8 @@ fn resolve_batch<R: Wait + AllocGlobal>(
     now: Moment,
     first: u64,
 ) -> Option<Counted>
-    requires { IsAt seat.old }
-    ensures { IsAt seat.new }
+    requires { IsSeatOf cache.now seat.old }
+    ensures { IsSeatOf cache.now seat.new }
 {
     cache.catch_up(rt, seat, now).ok()?;
     match empty(rt.alloc()) {
@@ -219,8 +219,8 @@ fn resolve_all<R: Wait + AllocGlobal>(
     seat: &mut RollingSeat,
     now: Moment,
 ) -> Option<Counted>
-    requires { IsAt seat.old }
-    ensures { IsAt seat.new }
+    requires { IsSeatOf cache.now seat.old }
+    ensures { IsSeatOf cache.now seat.new }
 {
     let mut counted = Counted::nothing();
     'batches: for batch in 0..DOMAINS / BATCH {
@@ -239,7 +239,7 @@ fn resolve_again<R: Wait + AllocGlobal>(
     cache: &RollingCache,
     seat: &mut RollingSeat,
 ) -> Option<Counted>
-    requires { IsAt seat.old }
+    requires { IsSeatOf cache.now seat.old }
 {
     let mut counted = Counted::nothing();
     'lives: for life in 0..LIVES {
@@ -251,9 +251,12 @@ fn resolve_again<R: Wait + AllocGlobal>(
 
 /// What a thread does with its seat.
 trait Work {
+    // The seats that it works with.
+    ghost takes: { Self → RollingView → Type 0 };
+
     /// What it counted.
     fn work<R: Wait + AllocGlobal>(&self, rt: &R, seat: RollingSeat) -> Option<Counted>
-        requires { IsFirst seat };
+        requires { takes self.now seat };
 }
 
 /// A cache, and the zone that is asked.
@@ -264,8 +267,12 @@ struct Load<'a> {
 }
 
 impl Work for Load<'_> {
+    ghost use Rattle.rolling_cache.specs.Rolling.{IsSeatOf};
+
+    ghost takes = { λ load seat. IsSeatOf load.cache.now seat };
+
     fn work<R: Wait + AllocGlobal>(&self, rt: &R, seat: RollingSeat) -> Option<Counted>
-        requires { IsFirst seat }
+        requires { IsSeatOf self.now.cache.now seat }
     {
         let mut seat = seat;
         resolve_again(rt, self.zone, self.cache, &mut seat)
@@ -278,10 +285,10 @@ fn by_all<R: Threads + Wait + AllocGlobal + Sync, W: Work + Sync>(
     load: &W,
     seats: Vec<RollingSeat>,
 ) -> Option<Counted>
-    requires { All IsFirst seats.items }
+    requires { All (W.takes load.now) seats.items }
 {
     let job = |seat: RollingSeat| -> Option<Counted>
-        requires { IsFirst seat }
+        requires { W.takes load.now seat }
     { load.work(rt, seat) };
     let counts = map_vec(rt, seats, &job).ok()?;
     let mut counted = Counted::nothing();
@@ -297,7 +304,7 @@ fn by_all_over<R: Threads + Wait + AllocGlobal + Sync>(
     load: &Load<'_>,
     seats: Vec<RollingSeat>,
 ) -> Option<Counted>
-    requires { All IsFirst seats.items }
+    requires { All (IsSeatOf load.now.cache.now) seats.items }
 {
     by_all(rt, load, seats)
 }

@@ -1,10 +1,10 @@
 use Rattle.std.specs.Prelude.{⊤}
 use Rattle.sip_resolver.specs.Requests.{Stand}
-use Rattle.rolling_cache.specs.Rolling.{IsAt}
+use Rattle.rolling_cache.specs.Rolling.{IsSeatOf}
 use Rattle.benchmarks.proofs.workers.rolling.drive.Given as goal
 
 abbrev pub invariant-queries : goal.invariant-queries
 invariant-queries g l = record {
-  at : IsAt l.seat;
+  at : IsSeatOf l.cache l.seat;
   stand : Stand (λ _. ⊤) (λ _. ⊤) l.seat.seat.seat l.resolver.requests;
 }
