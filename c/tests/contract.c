@@ -410,7 +410,8 @@ static void expect_counts(wokhleas_resolver *resolver, uint64_t requests, uint64
     EXPECT(counts.ignored, ignored);
 }
 
-/* Two requests wait for one question, which is sent twice; a third one can't ask yet. */
+/* Two requests wait for one question, which is sent twice; a third one can't ask yet. When the question has its answer, the
+ * third one asks first: the two end in the call that has no query to give. */
 static void test_counts(void) {
     wokhleas_resolver resolver = WOKHLEAS_RESOLVER_INIT;
     struct query query = NO_QUERY, none = NO_QUERY;
@@ -436,6 +437,7 @@ static void test_counts(void) {
     expect_counts(&resolver, 3, 0, 1, 2, 1, 1);
     EXPECT_STATUS(take_query(&resolver, 2500, &query), WOKHLEAS_OK);
     expect_counts(&resolver, 3, 1, 1, 3, 1, 1);
+    EXPECT_STATUS(take_query(&resolver, 2500, &none), WOKHLEAS_NOTHING);
     EXPECT_OUTCOMES(&resolver, "1: udp 192.0.2.7 5070", "2: udp 192.0.2.7 5071");
     expect_counts(&resolver, 1, 1, 1, 3, 1, 1);
     EXPECT_STATUS(wokhleas_cancel(&resolver, 3), WOKHLEAS_OK);

@@ -186,6 +186,7 @@ static void test_one_question(void) {
     EXPECT_STATUS(take_query(&resolver, 0, &other), WOKHLEAS_OK);
     EXPECT_TEXT(one.name, "host.example");
     EXPECT_TEXT(other.name, "two.example");
+    EXPECT_STATUS(take_query(&resolver, 0, &one), WOKHLEAS_NOTHING);
     EXPECT_OUTCOMES(&resolver, "1: refused 4");
     wokhleas_close(&resolver);
 }
