@@ -3,7 +3,8 @@ use Rattle.std.specs.Prelude.{◌≡◌, ℕ, ◌+◌, ◌<◌, ◌≤◌, List,
 use mathlib.Core.List.{IsPrefix}
 use Rattle.dns_answers.specs.Values.{AnswerValue}
 use Rattle.dns_message.specs.declared.question.Question.{Question}
-use Rattle.answer_log.specs.Histories.{IsFull, IsHistory, mine}
+use Rattle.answer_log.specs.Groups.{group_in}
+use Rattle.answer_log.specs.Histories.{IsFull, IsHistory, in_group, mine}
 use Rattle.answer_log.specs.declared.store.Store.{Store}
 use Rattle.answer_cache.specs.declared.refusal.StoreRefusal.{StoreRefusal}
 use Rattle.answer_cache.specs.declared.refusal.StoreRefusal.TheVariants.{Lifeless, GenerationFull}
@@ -78,6 +79,11 @@ WhyNot old new offer Memory = 0 < offer.answer.life
 -- the seat has stored nothing more, for this reason (`WhyNot`)
 abbrev pub IsRefused : SeatView → SeatView → Offer → StoreRefusal → Type 0
 IsRefused old new offer refusal = (new.own ≡ old.own) × WhyNot old new offer refusal
+
+-- the group of the question has so many stores at least in the history that the seat has seen
+abbrev pub GroupHas : ℕ → SeatView → Question → Type 0
+GroupHas stores seat question =
+    stores ≤ length (in_group seat.groups (group_in seat.groups question) seat.seen)
 
 -- during the call, a history was seen in which the question's group, one of so many, was not full
 pub record HasSeenRoom (groups : ℕ) (question : Question)

@@ -22,8 +22,8 @@ ghost use Rattle.answer_cache.specs.Indexes.{AreIndexes, IsIndex, TellsAll};
 ghost use Rattle.answer_cache.specs.Nodes.{Costs, Holds, IsLastOf, IsNode, IsReady, LeavesPlaces};
 ghost use Rattle.answer_cache.specs.Nodes.{Meets, Says};
 ghost use Rattle.answer_cache.specs.Nodes.{WhyLost, WhyNoRoom, WhyNotPut, numbers_of, store_in};
-ghost use Rattle.answer_cache.specs.Seats.{GoesOn, IsRefused, IsStored, Offer, StoresNothing};
-ghost use Rattle.answer_cache.specs.Seats.{offer_of};
+ghost use Rattle.answer_cache.specs.Seats.{GoesOn, GroupHas, IsRefused, IsStored, Offer};
+ghost use Rattle.answer_cache.specs.Seats.{StoresNothing, offer_of};
 ghost use Rattle.answer_cache.specs.Shared.{Belongs, Leaves, Takes, Refuses, RefusesGroups};
 ghost use Rattle.answer_cache.specs.Shared.{WantsForAnswer};
 ghost use Rattle.answer_cache.specs.Lists.{IsGroupCount};
@@ -424,20 +424,25 @@ impl SharedCache {
         self.last_by(handle, index, asked, group)
     }
 
-    /// Whether as many stores are ahead of a cursor as a group can have.
-    fn is_full(&self, cursor: &mut Cursor, handle: &mut Handle) -> Result<bool, AllocError>
+    /// Whether so many stores at least are ahead of a cursor.
+    fn has_ahead(
+        &self,
+        cursor: &mut Cursor,
+        handle: &mut Handle,
+        stores: usize,
+    ) -> Result<bool, AllocError>
         requires books { (cursor.old.seen.book ≡ self.now.book)
             × (handle.old.book.book ≡ self.now.book) }
         requires handle { IsHandle handle.old }
         requires ahead { (left : List Store) × Ahead cursor.old left }
         ensures same { IsSame handle.old handle.new }
-        ensures full { IfOk result (λ full. (left : List Store) → Ahead cursor.old left
-            → IsTrue full ↔ (group_limit ≤ length left)) }
-        ensures costs { Costs (spent_of handle.old) (spent_of handle.new) group_limit 0 }
+        ensures has { IfOk result (λ has. (left : List Store) → Ahead cursor.old left
+            → IsTrue has ↔ (stores ≤ length left)) }
+        ensures costs { Costs (spent_of handle.old) (spent_of handle.new) stores 0 }
         ensures missed { IfErr result
             (λ _. (spent_of handle.old).missed < (spent_of handle.new).missed) }
     {
-        'stores: for _store in 0..GROUP_LIMIT {
+        'stores: for _store in 0..stores {
             let Some(_node) = self.step(cursor, handle)? else {
                 return Ok(false);
             };
@@ -466,10 +471,36 @@ impl SharedCache {
         let group = group_among(asked.hash, handle.groups);
         let mut cursor = self.log.cursor(handle, group);
         let old = cursor.next;
-        if self.is_full(&mut cursor, handle)? {
+        if self.has_ahead(&mut cursor, handle, GROUP_LIMIT)? {
             return Err(StoreRefusal::GenerationFull);
         }
         Ok(old)
+    }
+
+    /// Whether the group of a question has so many stores at least.
+    fn has_stores(
+        &self,
+        handle: &mut Handle,
+        asked: &Hashed<'_>,
+        stores: usize,
+    ) -> Result<bool, AllocError>
+        requires hash { asked.now.hash ≡ hash_of (hashed_of asked.now.question.now) }
+        requires handle { IsHandle handle.old }
+        requires book { (handle.old.book.book ≡ self.now.book)
+            × (handle.old.groups ≡ self.now.groups) }
+        ensures holds { Holds self.now.book handle.old handle.new }
+        ensures seen { SeesMore handle.old.number handle.old.book.log handle.new.book.log }
+        ensures node_count { handle.new.node_count ≡ handle.old.node_count }
+        ensures costs { Costs (spent_of handle.old) (spent_of handle.new) stores 0 }
+        ensures has { IfOk result (λ has. IsTrue has ↔ (stores ≤ length
+            (in_group self.now.groups (group_in self.now.groups asked.now.question.now)
+            (history handle.new.book.log)))) }
+        ensures missed { IfErr result
+            (λ _. (spent_of handle.old).missed < (spent_of handle.new).missed) }
+    {
+        let number = group_among(asked.hash, handle.groups);
+        let mut cursor = self.log.cursor(handle, number);
+        self.has_ahead(&mut cursor, handle, stores)
     }
 
     /// Names a node of this place, and puts it on the shelf, wherever it lands there. All memory
@@ -761,6 +792,36 @@ impl SharedCache {
     {
         self.log.learn(&mut seat.handle, &notice.seen);
         law_log_keeps_its_rule(&seat.handle.book);
+    }
+
+    /// Whether the group of a question has so many stores at least. Afterwards the seat has seen
+    /// what is there now: one load of a head, and of the link of each of so many nodes. Takes no
+    /// memory.
+    ///
+    /// # Errors
+    /// Where a number led to no node.
+    pub fn group_has(
+        &self,
+        seat: &mut Seat,
+        question: &Question,
+        stores: usize,
+    ) -> Result<bool, AllocError>
+        requires made_here { Belongs self.now seat.old }
+        ensures stays { Belongs self.now seat.new }
+        ensures goes_on { GoesOn seat.old.seat seat.new.seat }
+        ensures stores_nothing { StoresNothing seat.old.seat seat.new.seat }
+        ensures takes { Takes seat.old seat.new stores 0 }
+        ensures has { IfOk result
+            (λ has. IsTrue has ↔ GroupHas stores seat.new.seat question.now) }
+        ensures missed { OnErr result (seat.old.missed < seat.new.missed) }
+    {
+        let asked = Hashed {
+            question,
+            hash: hash(question),
+        };
+        let has = self.has_stores(&mut seat.handle, &asked, stores);
+        law_log_keeps_its_rule(&seat.handle.book);
+        has
     }
 }
 

@@ -7,12 +7,14 @@
 //! | `lists` | the calls of a `PendingList`, and an asker that hears a reply |
 //! | `requests` | requests whose answers are all in a book, misses, and the memory of both |
 //! | `workers` | runs of many workers over wires in memory |
+//! | `proxy` | a million requests over one rolling cache |
 //!
 //! Each module says what its words are. Without a subject nothing is done.
 #![tactic(auto)]
 
 mod lists;
 mod look_ups;
+mod proxy;
 mod requests;
 mod workers;
 
@@ -33,6 +35,7 @@ fn measure<R: Files + Threads + Wait + Clock + Print + AllocGlobal + Sync>(
         "lists" => lists::print_times(rt),
         "requests" => requests::run_words(rt, words),
         "workers" => workers::run_words(rt, words),
+        "proxy" => proxy::run_words(rt, words),
         _ => None,
     }
 }

@@ -4,7 +4,7 @@ use Rattle.std.proofs.lemmas.List.Elements.{All-push, Contains-append_left, Cont
 use Rattle.std.specs.List.{All, Contains}
 use Rattle.answer_cache.proofs.Placing.{prefix-trans}
 use Rattle.answer_cache.specs.Seats.{GoesOn, Offer, SeatView}
-use Rattle.rolling_cache.specs.Rolling.{AddsIfLives, GenerationView, IsAt, IsFresh, IsLater, IsStoredAgain, MovesOn, RollingView, rolling_of}
+use Rattle.rolling_cache.specs.Rolling.{AddsIfLives, GenerationView, IsAt, IsFresh, IsLater, IsStoredAgain, MovesOn, RollingView, rolling_of, rolling_view}
 
 pub late-same : (old new late : List Offer) → new ≡ old → All (Contains old) late → All (Contains new) late
 late-same old new late is all =
@@ -64,12 +64,13 @@ pub moves-on : (now : ℕ) (old next taken before new : RollingView) → taken �
 moves-on now old next taken before new is was fresh later at here goes again =
     let there : new.generation ≡ next.generation = here ∙ ap (λ (it : RollingView). it.generation) is in
     let F : GenerationView → Type 0 = λ generation. IsFresh (rolling_of generation next.seat) in
+    let E : Bool → Type 0 = λ ending. IsFresh (rolling_view next.generation next.seat ending) in
     let L : GenerationView → Type 0 = λ generation. IsLater old.generation generation in
     let G : RollingView → Type 0 = λ it. GoesOn it.seat.seat new.seat.seat in
     let A : RollingView → Type 0 = λ it. All (IsStoredAgain now it.seat.seat.offered) new.seat.seat.offered in
     record {
       fresh = next.seat;
-      is = subst F (sym there) fresh;
+      is = subst F (sym there) (subst E fresh.ending fresh);
       goes_on = subst G is goes;
       at = at;
       later = subst L (sym there) later;

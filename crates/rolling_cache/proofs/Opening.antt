@@ -25,6 +25,7 @@ fresh cache past seat here seen offered = record {
   at = record { here = here; begins = ([], append-nil (carried_stores (begun_with past)) ∙ sym seen) };
   seen = seen;
   offered = offered;
+  ending = refl;
 }
 
 -- the seats of a new cache are fresh in the first generation

@@ -1,11 +1,14 @@
 -- What contracts see of a rolling cache, and what becomes of a seat where generations change.
 use Rattle.std.specs.Prelude.{◌≡◌, ℕ, ◌+◌, ◌<◌, ◌⊎◌, List, [], ◌∷◌, ◌++◌}
-use Rattle.std.specs.Prelude.{length, map, true}
+use Rattle.std.specs.Prelude.{Bool, false, length, map, true}
 use Rattle.std.specs.List.{All, Contains, range_with_len}
 use mathlib.Core.List.{IsPrefix}
+use Rattle.dns_message.specs.declared.question.Question.{Question}
+use Rattle.answer_log.specs.Groups.{group_in}
+use Rattle.answer_log.specs.Histories.{in_group}
 use Rattle.answer_log.specs.declared.store.Store.{Store}
 use Rattle.answer_cache.specs.Carried.{CarriedView, IsCarried, carried_stores, lives_at}
-use Rattle.answer_cache.specs.Seats.{GoesOn, Offer, StoresNothing}
+use Rattle.answer_cache.specs.Seats.{GoesOn, Offer, SeatView, StoresNothing}
 use Rattle.answer_cache.specs.Shared.{Belongs, CacheView, SharedView, NoticeView}
 use Rattle.rolling_cache.specs.Eras.{Era, begun_with, era_of}
 use Rattle.rolling_cache.specs.declared.change.Change.{Change}
@@ -37,14 +40,20 @@ pub record IsLater (old new : GenerationView) : Type 0 where
   pub same : root_of new ≡ root_of old
   pub more : length old.past < length new.past
 
--- what contracts see of a rolling seat: the generation that it is at, and its seat there
+-- what contracts see of a rolling seat: the generation that it is at, its seat there, and whether
+-- it has noted that the generation is to end
 pub record RollingView : Type 0 where
   pub generation : GenerationView
   pub seat : SharedView
+  pub ending : Bool
 
--- a rolling seat: that of this generation, which is this seat there
+abbrev pub rolling_view : GenerationView → SharedView → Bool → RollingView
+rolling_view generation seat ending =
+    record { generation = generation; seat = seat; ending = ending }
+
+-- a rolling seat that has noted nothing: that of this generation, which is this seat there
 abbrev pub rolling_of : GenerationView → SharedView → RollingView
-rolling_of generation seat = record { generation = generation; seat = seat }
+rolling_of generation seat = rolling_view generation seat false
 
 -- the seat is of its generation, and has seen what that began with
 pub record IsAt (it : RollingView) : Type 0 where
@@ -56,11 +65,13 @@ pub record IsSeatOf (root : CacheView) (it : RollingView) : Type 0 where
   pub at : IsAt it
   pub of : IsOf root it.generation
 
--- the seat has seen what its generation began with and no more, and was handed nothing
+-- the seat has seen what its generation began with and no more, was handed nothing, and has noted
+-- nothing
 pub record IsFresh (it : RollingView) : Type 0 where
   pub at : IsAt it
   pub seen : it.seat.seat.seen ≡ carried_stores (begun_with it.generation.past)
   pub offered : it.seat.seat.offered ≡ []
+  pub ending : it.ending ≡ false
 
 -- the same, and this is its generation
 pub record IsFreshAt (generation : GenerationView) (it : RollingView) : Type 0 where
@@ -89,6 +100,24 @@ pub record Waits (old new : RollingView) : Type 0 where
   pub generation : new.generation ≡ old.generation
   pub goes_on : GoesOn old.seat.seat new.seat.seat
   pub stores_nothing : StoresNothing old.seat.seat new.seat.seat
+  pub ending : new.ending ≡ old.ending
+
+-- how many stores that a group has end its generation: 112 of the 128 that it can have
+abbrev pub stores_to_end : ℕ
+stores_to_end = 112
+
+-- during the call, a history was seen in which the question's group had fewer stores than that
+pub record HasSeenFew (question : Question) (old new : SeatView) : Type 0 where
+  pub seen : List Store
+  pub later : IsPrefix old.seen seen
+  pub earlier : IsPrefix seen new.seen
+  pub few : length (in_group old.groups (group_in old.groups question) seen) < stores_to_end
+
+-- What a store tells of the end of its generation. A seat that had noted that it is to end goes on
+-- to note it. One that has not noted it afterwards has seen few stores in the question's group.
+pub record TellsEnd (question : Question) (old new : RollingView) : Type 0 where
+  pub still : old.ending ≡ true → new.ending ≡ true
+  pub few : new.ending ≡ false → HasSeenFew question old.seat.seat new.seat.seat
 
 -- The new generation begins with what was carried of the old one at the moment: of each group what
 -- lived then of a history that goes on with what the seat had seen. It has as many groups.

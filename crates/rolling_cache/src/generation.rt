@@ -8,17 +8,12 @@ ghost use Rattle.rolling_cache.specs.Rolling.{generation_of, rolling_of};
 
 use crate::lineage::Lineage;
 use crate::present::Present;
-use answer_cache::{CacheRefusal, Seat, SharedCache, StoreRefusal};
-use answer_log::hash;
+use answer_cache::{CacheRefusal, Seat, SharedCache};
 use dns_answers::Moment;
-use dns_message::Question;
 use std::alloc::{AllocError, Global};
 use std::marker::Model;
-use std::sync::atomic::{AtomicBool, AtomicU64, Ordering};
+use std::sync::atomic::{AtomicBool, Ordering};
 use std::sync::{Arc, Wait};
-
-/// How many stores a generation makes in a group before it is to end: half of what a group takes.
-const STORES_TO_END: u64 = 64;
 
 /// A generation: a cache, which begins with what the one before it handed on.
 #[derive(Drop)]
@@ -26,8 +21,7 @@ pub struct Generation {
     pub(crate) cache: SharedCache,
     pub(crate) number: u64,
     pub(crate) lineage: Lineage,
-    began: Moment,
-    stored: Vec<AtomicU64>,
+    pub(crate) began: Moment,
     ending: AtomicBool,
     handing_on: AtomicBool,
 }
@@ -42,15 +36,6 @@ impl Model for Generation {
     ghost view = { λ it. generation_of it.cache it.lineage };
 
     ghost invariant = { λ it. Descends it.lineage × (it.number ≡ length it.lineage) };
-}
-
-/// A count of stores for each of so many groups.
-fn no_counts(alloc: Global, groups: u32) -> Result<Vec<AtomicU64>, AllocError> {
-    let mut counts = Vec::with_capacity(alloc, groups as usize)?;
-    'groups: for _group in 0..groups {
-        counts.push(AtomicU64::new(0))?;
-    }
-    Ok(counts)
 }
 
 impl Generation {
@@ -77,37 +62,15 @@ impl Generation {
         let _ = &self.lineage;
     }
 
-    /// Whether it is to end: a group has half of the stores that it takes, not counting those that
-    /// it began with, or a group was full after the moment at which it began.
+    /// Whether one of its seats has noted that it is to end (`RollingSeat::is_ending`).
     #[must_use]
     pub fn is_ending(&self) -> bool {
         self.ending.load(Ordering::SeqCst)
     }
 
-    /// Counts a store of this question.
-    fn count(&self, question: &Question) {
-        let Some(group) = (hash(question) as usize).checked_rem(self.stored.len()) else {
-            return;
-        };
-        let Some(stored) = self.stored.get(group) else {
-            return;
-        };
-        if stored.fetch_add(1, Ordering::SeqCst) >= STORES_TO_END - 1 {
-            self.ending.store(true, Ordering::SeqCst);
-        }
-    }
-
-    /// Notes what became of a store of this question.
-    pub(crate) fn note(&self, question: &Question, stored: Result<(), StoreRefusal>, now: Moment) {
-        match stored {
-            Ok(()) => self.count(question),
-            Err(StoreRefusal::GenerationFull) => {
-                if self.began < now {
-                    self.ending.store(true, Ordering::SeqCst);
-                }
-            }
-            Err(_) => {}
-        }
+    /// Notes that it is to end.
+    pub(crate) fn end(&self) {
+        self.ending.store(true, Ordering::SeqCst);
     }
 
     /// A generation that begins, with all of its seats.
@@ -115,7 +78,6 @@ impl Generation {
         alloc: Global,
         cache: SharedCache,
         seats: Vec<Seat>,
-        groups: u32,
         number: u64,
         began: Moment,
         lineage: Lineage,
@@ -130,7 +92,6 @@ impl Generation {
             number,
             lineage,
             began,
-            stored: no_counts(alloc, groups)?,
             ending: AtomicBool::new(false),
             handing_on: AtomicBool::new(false),
         };
@@ -151,7 +112,7 @@ impl Generation {
         ensures refused { IfErr result (RefusesGroups seats groups) }
     {
         let (cache, seats) = SharedCache::with_groups(alloc, seats, groups)?;
-        let opened = Generation::open(alloc, cache, seats, groups, 0, now, Lineage::none());
+        let opened = Generation::open(alloc, cache, seats, 0, now, Lineage::none());
         let Ok(made) = opened else {
             return Err(CacheRefusal::Memory);
         };
@@ -209,8 +170,7 @@ impl Generation {
         let Ok((cache, seats)) = SharedCache::successor(rt, alloc, &carried, seats) else {
             return Err(AllocError);
         };
-        let groups = carried.groups();
-        let made = Generation::open(alloc, cache, seats, groups, number, now, lineage)?;
+        let made = Generation::open(alloc, cache, seats, number, now, lineage)?;
         Ok(made)
     }
 }

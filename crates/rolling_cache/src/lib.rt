@@ -23,13 +23,14 @@
 //!
 //! `catch_up` goes over to the present generation, where that is another one. Where the present one
 //! is to end, one thread carries what lives, and begins the next one with that. A generation is to
-//! end once half of what a group takes, 64 stores, was stored in a group beside what it began with.
-//! So it is before the group is full, as long as at most 63 questions of a group have answers that
-//! live. It is also to end once a group was full after the moment at which the generation began:
-//! where more than that live, there is a new generation each second at most. `renew` begins the
-//! next one in any case. The others take the present generation out of its place only where they
-//! take their seat there. Where another thread has taken it out, they go on at theirs until the
-//! next call. No thread waits for another one.
+//! end once a store finds 112 stores in its group, of the 128 that a group can have. A seat notes
+//! that (`RollingSeat::is_ending`, `TellsEnd`), and all seats of the generation are told. So it is
+//! to end before a store is refused since a group is full, unless 16 others come in between. The
+//! next one begins at a later moment: before time has passed nothing is freed. So where more live
+//! than a group can have, there is a new generation each second at most. `renew` begins the next
+//! one in any case. The others take the present generation out of its place only where they take
+//! their seat there. Where another thread has taken it out, they go on at theirs until the next
+//! call. No thread waits for another one.
 //!
 //! What a thread stores at its generation while another one carries may not be carried. So a seat
 //! keeps what it stores from the beginning of a carrying on, up to 1,024 stores where there is
@@ -52,13 +53,13 @@
 //! # How large it is
 //!
 //! A generation takes at most 128 stores in each of its groups, 64 or as many as `with_groups` is
-//! told. With 64 it takes 8,192. It is to end after 64 stores in one group at the least, where all
-//! are of one group. Where the questions are many, groups fill evenly, and that is after some 2,500
-//! to 3,500 stores. A million names a day, each stored once, are 12 stores a second, and a new
-//! generation every four or five minutes. As many answers as live at once have to fit: 63 in a
-//! group, some 2,500 in all, are never refused.
+//! told. With 64 it takes 8,192. It is to end after 113 stores at the least, where all are of one
+//! group. Where the questions are many, groups fill evenly, and that is after some 5,700 stores. A
+//! million names a day, each stored once, are 12 stores a second, and a new generation every eight
+//! minutes. As many answers as live at once have to fit, with those that come meanwhile: where a
+//! group has 63 that live, it takes 49 more before its generation is to end.
 //!
-//! With 65,536 groups, the most that there can be, a thousand times as many fit. A group costs 16
+//! With 65,536 groups, the most that there can be, a thousand times as many fit. A group costs 8
 //! octets in a generation, and 24 more in each seat that looks something up there.
 //!
 //! Each generation that a seat is at is in memory: the present one, and while generations change

@@ -44,6 +44,7 @@ impl Present {
             generation,
             seat,
             late,
+            ending: false,
         })
     }
 

@@ -1,6 +1,6 @@
 //! The cache that goes over from one generation to the next.
 ghost use Rattle.std.specs.Prelude.{◌≡◌, ◌<◌, ◌++◌, ◌∷◌, [], IfErr, IfOk, IfSome, OnErr};
-ghost use Rattle.std.specs.Prelude.{OnOk, length};
+ghost use Rattle.std.specs.Prelude.{OnOk, length, true};
 ghost use Rattle.std.specs.Arc.{arc_value};
 ghost use Rattle.std.specs.List.{All};
 ghost use Rattle.std.specs.Option.{option_map};
@@ -9,8 +9,10 @@ ghost use Rattle.answer_log.specs.Histories.{cached};
 ghost use Rattle.dns_answers.specs.Found.{answer_in};
 ghost use Rattle.answer_cache.specs.Seats.{GoesOn, IsRefused, IsStored, StoresNothing, offer_of};
 ghost use Rattle.answer_cache.specs.Shared.{Refuses, RefusesGroups};
+ghost use Rattle.answer_cache.specs.declared.refusal.StoreRefusal.TheVariants.{GenerationFull};
 ghost use Rattle.rolling_cache.specs.Rolling.{Changes, IsFirst, IsFreshAfter, IsFreshAt, IsOf};
-ghost use Rattle.rolling_cache.specs.Rolling.{HandsOver, IsAt, IsFresh, IsOfGroups, IsSeatOf, Waits};
+ghost use Rattle.rolling_cache.specs.Rolling.{HandsOver, IsAt, IsFresh, IsOfGroups, IsSeatOf};
+ghost use Rattle.rolling_cache.specs.Rolling.{TellsEnd, Waits};
 
 use crate::change::Change;
 use crate::generation::Generation;
@@ -136,9 +138,9 @@ impl RollingCache {
     }
 
     /// Goes over to the present generation, where that is a later one, and begins the next one
-    /// where it is to end. Call it between requests, and before replies are heard: before each, or
-    /// before each batch. What the seat had stored while its generation was handed on, and lives,
-    /// is stored again.
+    /// where its own is to end, and began at an earlier moment. Call it between requests, and
+    /// before replies are heard: before each, or before each batch. What the seat had stored while
+    /// its generation was handed on, and lives, is stored again.
     ///
     /// It waits for no other thread: where one changes the generation just now, the seat stays.
     ///
@@ -159,10 +161,10 @@ impl RollingCache {
             seat.go_over(rt, next, now);
             return Ok(Change::Moved);
         }
-        if !seat.generation.is_ending() {
-            return Ok(Change::Stays);
+        if seat.is_ending() && seat.generation.began < now {
+            return self.renew(rt, seat, now);
         }
-        self.renew(rt, seat, now)
+        Ok(Change::Stays)
     }
 
     /// Begins the next generation with what lives at this moment, whether or not the present one is
@@ -269,6 +271,7 @@ impl AnswerBook for RollingCache {
         ensures generation { seat.new.generation ≡ seat.old.generation }
         ensures goes_on { GoesOn seat.old.seat.seat seat.new.seat.seat }
         ensures stores_nothing { StoresNothing seat.old.seat.seat seat.new.seat.seat }
+        ensures ending { seat.new.ending ≡ seat.old.ending }
         ensures found { IfOk result (λ found. option_map answer_in found
             ≡ cached seat.new.seat.seat.seen question.now now) }
     {
@@ -289,6 +292,7 @@ impl AnswerBook for RollingCache {
         ensures generation { seat.new.generation ≡ seat.old.generation }
         ensures goes_on { GoesOn seat.old.seat.seat seat.new.seat.seat }
         ensures stores_nothing { StoresNothing seat.old.seat.seat seat.new.seat.seat }
+        ensures ending { seat.new.ending ≡ seat.old.ending }
         ensures found { IfOk result (λ found. option_map arc_value found
             ≡ cached seat.new.seat.seat.seen question.now now) }
     {
@@ -316,6 +320,9 @@ impl<R: Wait> Stores<R> for RollingCache {
             (offer_of question.now (arc_value answer.now) now)) }
         ensures refused { IfErr result (IsRefused seat.old.seat.seat seat.new.seat.seat
             (offer_of question.now (arc_value answer.now) now)) }
+        ensures ends { TellsEnd question.now seat.old seat.new }
+        ensures full { IfErr result
+            (λ refusal. refusal ≡ GenerationFull → seat.new.ending ≡ true) }
     {
         seat.store(rt, question, answer, now)
     }

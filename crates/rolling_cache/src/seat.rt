@@ -1,13 +1,14 @@
 //! A seat that goes over from one generation to the next.
-ghost use Rattle.std.specs.Prelude.{◌≡◌, ◌++◌, ◌∷◌, [], IfErr, IfOk, OnOk};
+ghost use Rattle.std.specs.Prelude.{◌≡◌, ◌++◌, ◌∷◌, [], IfErr, IfOk, OnOk, true};
 ghost use Rattle.std.specs.Arc.{arc_value};
 ghost use Rattle.std.specs.List.{All, Contains};
 ghost use Rattle.std.specs.Option.{option_map};
 ghost use Rattle.dns_answers.specs.Records.{kind_of};
 ghost use Rattle.answer_log.specs.Histories.{cached};
-ghost use Rattle.answer_cache.specs.Seats.{GoesOn, IsRefused, IsStored, offer_of};
+ghost use Rattle.answer_cache.specs.Seats.{GoesOn, IsRefused, IsStored, StoresNothing, offer_of};
+ghost use Rattle.answer_cache.specs.declared.refusal.StoreRefusal.TheVariants.{GenerationFull};
 ghost use Rattle.rolling_cache.specs.Rolling.{AddsIfLives, IsAt, IsFresh, IsLater, IsStoredAgain};
-ghost use Rattle.rolling_cache.specs.Rolling.{MovesOn, Waits};
+ghost use Rattle.rolling_cache.specs.Rolling.{MovesOn, TellsEnd, Waits, rolling_view};
 
 use crate::generation::Generation;
 use crate::late_store::LateStore;
@@ -26,19 +27,23 @@ pub struct RollingSeat {
     pub(crate) generation: Arc<Generation>,
     pub(crate) seat: Seat,
     pub(crate) late: Vec<LateStore>,
+    pub(crate) ending: bool,
 }
 
 /// How many late stores a seat keeps.
 const LATE_STORES: usize = 1_024;
 
+/// How many stores that a group has end its generation: seven eighths of what it can have.
+const STORES_TO_END: usize = 112;
+
 impl Model for RollingSeat {
     ghost use Rattle.std.specs.Arc.{arc_value};
     ghost use Rattle.std.specs.List.{All, Contains};
-    ghost use Rattle.rolling_cache.specs.Rolling.{RollingView, rolling_of};
+    ghost use Rattle.rolling_cache.specs.Rolling.{RollingView, rolling_view};
 
     ghost Value = { RollingView };
 
-    ghost view = { λ it. rolling_of (arc_value it.generation) it.seat };
+    ghost view = { λ it. rolling_view (arc_value it.generation) it.seat it.ending };
 
     // Its late stores were handed in.
     ghost invariant = { λ it. All (Contains it.seat.seat.offered) it.late.items };
@@ -51,6 +56,15 @@ impl RollingSeat {
         ensures { result.now ≡ self.now.generation }
     {
         &self.generation
+    }
+
+    /// Whether its generation is to end: one of its groups has 112 of the 128 stores that it can
+    /// have, or was full. A seat notes that when it stores, for all seats of the generation.
+    #[must_use]
+    pub fn is_ending(&self) -> bool
+        ensures { self.now.ending ≡ true → result ≡ true }
+    {
+        self.ending || self.generation.is_ending()
     }
 
     /// The generation of the seat, and its seat there, for what owns its seat, as a worker does.
@@ -98,6 +112,9 @@ impl RollingSeat {
             (offer_of question.now (arc_value answer.now) now)) }
         ensures refused { IfErr result (IsRefused self.old.seat.seat self.new.seat.seat
             (offer_of question.now (arc_value answer.now) now)) }
+        ensures ends { TellsEnd question.now self.old self.new }
+        ensures full { IfErr result
+            (λ refusal. refusal ≡ GenerationFull → self.new.ending ≡ true) }
     {
         let stored = self.store_here(rt, question, answer, now);
         if self.generation.is_handed_on() {
@@ -125,11 +142,44 @@ impl RollingSeat {
             (offer_of question.now (arc_value answer.now) now)) }
         ensures refused { IfErr result (IsRefused self.old.seat.seat self.new.seat.seat
             (offer_of question.now (arc_value answer.now) now)) }
+        ensures ends { TellsEnd question.now self.old self.new }
+        ensures full { IfErr result
+            (λ refusal. refusal ≡ GenerationFull → self.new.ending ≡ true) }
     {
+        self.note_end(question);
         let cache = &self.generation.cache;
         let stored = cache.store(rt, &mut self.seat, question, answer, now);
-        self.generation.note(question, stored, now);
+        if stored == Err(StoreRefusal::GenerationFull) {
+            self.end();
+        }
         stored
+    }
+
+    /// Notes that its generation is to end, where the group of a question has so many stores.
+    fn note_end(&mut self, question: &Question)
+        requires { IsAt self.old }
+        ensures at { IsAt self.new }
+        ensures generation { self.new.generation ≡ self.old.generation }
+        ensures goes_on { GoesOn self.old.seat.seat self.new.seat.seat }
+        ensures stores_nothing { StoresNothing self.old.seat.seat self.new.seat.seat }
+        ensures ends { TellsEnd question.now self.old self.new }
+    {
+        if self.ending {
+            return;
+        }
+        let cache = &self.generation.cache;
+        match cache.group_has(&mut self.seat, question, STORES_TO_END) {
+            Ok(false) => {}
+            _ => self.end(),
+        }
+    }
+
+    /// Notes that its generation is to end.
+    fn end(&mut self)
+        ensures { self.new ≡ rolling_view self.old.generation self.old.seat true }
+    {
+        self.ending = true;
+        self.generation.end();
     }
 
     /// Keeps a late store, where there is room and memory.

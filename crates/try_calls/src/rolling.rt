@@ -188,7 +188,7 @@ fn push_apart(output: &mut Output, seat: RollingSeat, question: &Question, now: 
 fn push_generation(output: &mut Output, seat: &RollingSeat) {
     output.push("generation ");
     output.push_number(seat.generation().number());
-    if seat.generation().is_ending() {
+    if seat.is_ending() {
         output.push(", ending");
     }
     output.push("\n");

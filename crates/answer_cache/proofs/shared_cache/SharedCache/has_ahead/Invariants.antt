@@ -4,7 +4,7 @@ use Rattle.answer_log.specs.Cursors.{Ahead}
 use Rattle.answer_log.specs.declared.store.Store.{Store}
 use Rattle.answer_cache.specs.Nodes.{Costs}
 use Rattle.answer_cache.proofs.Lookups.{Passes}
-use Rattle.answer_cache.proofs.shared_cache.SharedCache.is_full.Given as goal
+use Rattle.answer_cache.proofs.shared_cache.SharedCache.has_ahead.Given as goal
 
 abbrev pub invariant-stores : goal.invariant-stores
 invariant-stores l = record {
