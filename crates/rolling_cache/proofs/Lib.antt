@@ -1,4 +1,5 @@
 pub mod Crossing
+mod Ending
 mod Handing
 mod Late
 mod Opening

@@ -1,14 +1,15 @@
 //! A seat that goes over from one generation to the next.
-ghost use Rattle.std.specs.Prelude.{◌≡◌, ◌++◌, ◌∷◌, [], IfErr, IfOk, OnOk, true};
+ghost use Rattle.std.specs.Prelude.{◌≡◌, ◌++◌, ◌∷◌, [], IfErr, IfOk, OnOk, false, true};
 ghost use Rattle.std.specs.Arc.{arc_value};
 ghost use Rattle.std.specs.List.{All, Contains};
 ghost use Rattle.std.specs.Option.{option_map};
 ghost use Rattle.dns_answers.specs.Records.{kind_of};
 ghost use Rattle.answer_log.specs.Histories.{cached};
-ghost use Rattle.answer_cache.specs.Seats.{GoesOn, IsRefused, IsStored, StoresNothing, offer_of};
+ghost use Rattle.answer_cache.specs.Seats.{GoesOn, GroupHas, IsRefused, IsStored, StoresNothing};
+ghost use Rattle.answer_cache.specs.Seats.{offer_of};
 ghost use Rattle.answer_cache.specs.declared.refusal.StoreRefusal.TheVariants.{GenerationFull};
 ghost use Rattle.rolling_cache.specs.Rolling.{AddsIfLives, IsAt, IsFresh, IsLater, IsStoredAgain};
-ghost use Rattle.rolling_cache.specs.Rolling.{MovesOn, TellsEnd, Waits, rolling_view};
+ghost use Rattle.rolling_cache.specs.Rolling.{MovesOn, TellsEnd, Waits, rolling_view, stores_to_end};
 
 use crate::generation::Generation;
 use crate::late_store::LateStore;
@@ -116,15 +117,15 @@ impl RollingSeat {
         ensures full { IfErr result
             (λ refusal. refusal ≡ GenerationFull → self.new.ending ≡ true) }
     {
-        let stored = self.store_here(rt, question, answer, now);
+        let stored = self.store_noting(rt, question, answer, now);
         if self.generation.is_handed_on() {
             self.keep(question, answer, now);
         }
         stored
     }
 
-    /// Stores an answer in its generation.
-    fn store_here<R: Wait>(
+    /// Stores an answer in its generation, and notes whether that is to end.
+    fn store_noting<R: Wait>(
         &mut self,
         rt: &R,
         question: &Question,
@@ -147,12 +148,34 @@ impl RollingSeat {
             (λ refusal. refusal ≡ GenerationFull → self.new.ending ≡ true) }
     {
         self.note_end(question);
-        let cache = &self.generation.cache;
-        let stored = cache.store(rt, &mut self.seat, question, answer, now);
-        if stored == Err(StoreRefusal::GenerationFull) {
-            self.end();
-        }
+        let stored = self.store_here(rt, question, answer, now);
+        self.note_full(stored);
         stored
+    }
+
+    /// Stores an answer in its generation.
+    fn store_here<R: Wait>(
+        &mut self,
+        rt: &R,
+        question: &Question,
+        answer: &Arc<Answer>,
+        now: Moment,
+    ) -> Result<(), StoreRefusal>
+        requires at { IsAt self.old }
+        requires kind { kind_of (arc_value answer.now).records ≡ question.now.kind }
+        ensures at { IsAt self.new }
+        ensures generation { self.new.generation ≡ self.old.generation }
+        ensures goes_on { GoesOn self.old.seat.seat self.new.seat.seat }
+        ensures ending { self.new.ending ≡ self.old.ending }
+        ensures offered { self.new.seat.seat.offered ≡ self.old.seat.seat.offered
+            ++ offer_of question.now (arc_value answer.now) now ∷ [] }
+        ensures stored { OnOk result (IsStored self.old.seat.seat self.new.seat.seat
+            (offer_of question.now (arc_value answer.now) now)) }
+        ensures refused { IfErr result (IsRefused self.old.seat.seat self.new.seat.seat
+            (offer_of question.now (arc_value answer.now) now)) }
+    {
+        let cache = &self.generation.cache;
+        cache.store(rt, &mut self.seat, question, answer, now)
     }
 
     /// Notes that its generation is to end, where the group of a question has so many stores.
@@ -164,13 +187,34 @@ impl RollingSeat {
         ensures stores_nothing { StoresNothing self.old.seat.seat self.new.seat.seat }
         ensures ends { TellsEnd question.now self.old self.new }
     {
-        if self.ending {
-            return;
+        if self.has_many(question) {
+            self.end();
         }
+    }
+
+    /// Whether the group of a question has so many stores.
+    fn has_many(&mut self, question: &Question) -> bool
+        requires { IsAt self.old }
+        ensures waits { Waits self.old self.new }
+        ensures at { IsAt self.new }
+        ensures few { result ≡ false
+            → GroupHas stores_to_end self.new.seat.seat question.now → ⊥ }
+    {
         let cache = &self.generation.cache;
-        match cache.group_has(&mut self.seat, question, STORES_TO_END) {
-            Ok(false) => {}
-            _ => self.end(),
+        let has = cache.group_has(&mut self.seat, question, STORES_TO_END);
+        !matches!(has, Ok(false))
+    }
+
+    /// Notes that its generation is to end, where a group was full.
+    fn note_full(&mut self, stored: Result<(), StoreRefusal>)
+        ensures generation { self.new.generation ≡ self.old.generation }
+        ensures seat { self.new.seat ≡ self.old.seat }
+        ensures still { self.old.ending ≡ true → self.new.ending ≡ true }
+        ensures full { IfErr stored
+            (λ refusal. refusal ≡ GenerationFull → self.new.ending ≡ true) }
+    {
+        if stored == Err(StoreRefusal::GenerationFull) {
+            self.end();
         }
     }
 

@@ -6,4 +6,4 @@ use Rattle.rolling_cache.proofs.seat.RollingSeat.store.Goals as goal
 pub keep-requires-clause-offered : goal.keep-requires-clause-offered
 keep-requires-clause-offered g c =
     offered-last c.args.self.now.seat.seat.offered _
-    (offer_of c.args.question.now (arc_value c.args.answer.now) c.args.now) c.store_here-stored.ensures.offered
+    (offer_of c.args.question.now (arc_value c.args.answer.now) c.args.now) c.store_noting-stored.ensures.offered
