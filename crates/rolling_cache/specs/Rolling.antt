@@ -47,6 +47,7 @@ pub record RollingView : Type 0 where
   pub seat : SharedView
   pub ending : Bool
 
+-- a rolling seat: that of this generation, which is this seat there, and has noted this
 abbrev pub rolling_view : GenerationView → SharedView → Bool → RollingView
 rolling_view generation seat ending =
     record { generation = generation; seat = seat; ending = ending }
