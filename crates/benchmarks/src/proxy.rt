@@ -1,8 +1,9 @@
 //! Requests of a proxy of four threads over one rolling cache, to 100,000 domains whose answers
 //! live for a minute, by a clock that is made up: 100,000 requests a minute, drawn at random.
 //!
-//! Its word is a number of minutes. It prints lines of a name and a number: the kilobytes that are
-//! resident after each minute, the milliseconds of the run, and what was counted (`Counted`).
+//! Its word is a number of minutes. It prints lines of a name and a number: the milliseconds of the
+//! run, and what was counted (`Counted`). Before these it prints a line for each generation
+//! (`Resident`).
 //!
 //! All threads go through the same second, and each looks for another generation before each of its
 //! requests. One reply of eight comes a second late, so that requests are inside as generations
@@ -15,15 +16,16 @@ mod counted;
 mod desk;
 mod notes;
 mod replies;
+mod resident;
 
 use crate::proxy::asked::new_words;
 use crate::proxy::counted::Counted;
 use crate::proxy::desk::Desk;
 use crate::proxy::notes::{Load, QUESTIONS};
+use crate::proxy::resident::Resident;
 use dns_answers::Moment;
 use rolling_cache::{RollingCache, RollingSeat};
 use std::alloc::Global;
-use std::fs;
 use std::rt::Files;
 use std::sync::Wait;
 use std::sync::atomic::AtomicU64;
@@ -49,10 +51,7 @@ const BEGIN: u64 = 100;
 /// that is late, and what has to be asked again.
 const LAST_SECONDS: u64 = 8;
 
-/// How many kilobytes a page has.
-const PAGE: u64 = 4;
-
-/// How many requests a thread makes in this second of a minute.
+/// How many requests a thread makes in this second.
 fn share_of(second: u64) -> u64 {
     let until = |second: u64| second.wrapping_mul(REQUESTS) / MINUTE;
     until(second.wrapping_add(1)).wrapping_sub(until(second))
@@ -112,48 +111,43 @@ fn pass_second<R: Threads + Wait + Clock + AllocGlobal + Sync>(
 }
 
 /// Lets all threads go through so many seconds, in each of which they make as many requests as in a
-/// second of a minute, or none.
-fn pass_seconds<R: Threads + Wait + Clock + AllocGlobal + Sync>(
+/// second of a minute, and prints what is resident.
+fn pass_with_requests<R: Files + Threads + Wait + Clock + Print + AllocGlobal + Sync>(
     rt: &R,
     words: &[AtomicU64],
     desks: &mut [Desk<'_>],
-    from: u64,
     seconds: u64,
-    makes_requests: bool,
 ) -> Option<()> {
+    let mut resident = Resident::at(0);
     for second in 0..seconds {
-        let share = if makes_requests { share_of(second) } else { 0 };
+        let load = Load {
+            words,
+            now: Moment::new(second.wrapping_add(BEGIN))?,
+            share: share_of(second),
+        };
+        pass_second(rt, &load, desks);
+        resident = resident.after_second(rt, desks)?;
+    }
+    resident.print(rt)
+}
+
+/// Lets all threads go through the seconds after so many, in which they make no request.
+fn pass_last<R: Threads + Wait + Clock + AllocGlobal + Sync>(
+    rt: &R,
+    words: &[AtomicU64],
+    desks: &mut [Desk<'_>],
+    seconds: u64,
+) -> Option<()> {
+    let from = seconds.wrapping_add(BEGIN);
+    for second in 0..LAST_SECONDS {
         let load = Load {
             words,
             now: Moment::new(from.wrapping_add(second))?,
-            share,
+            share: 0,
         };
         pass_second(rt, &load, desks);
     }
     Some(())
-}
-
-/// How many kilobytes of the program are resident, by the second number of its `statm`.
-fn resident<R: Files + AllocGlobal>(rt: &R) -> Option<u64> {
-    let text = fs::read_to_string(rt, "/proc/self/statm").ok()?;
-    let pages = text.as_str().split(' ').nth(1)?.parse::<u64>().ok()?;
-    Some(pages.wrapping_mul(PAGE))
-}
-
-/// Lets all threads go through so many minutes, and prints what is resident after each.
-fn pass_minutes<R: Files + Threads + Wait + Clock + Print + AllocGlobal + Sync>(
-    rt: &R,
-    words: &[AtomicU64],
-    desks: &mut [Desk<'_>],
-    minutes: u64,
-) -> Option<()> {
-    for minute in 0..minutes {
-        let from = minute.wrapping_mul(MINUTE).wrapping_add(BEGIN);
-        pass_seconds(rt, words, desks, from, MINUTE, true)?;
-        println!(rt; "resident_{}\t{}", minute.wrapping_add(1), resident(rt)?).ok()?;
-    }
-    let from = minutes.wrapping_mul(MINUTE).wrapping_add(BEGIN);
-    pass_seconds(rt, words, desks, from, LAST_SECONDS, false)
 }
 
 /// Lets threads with these seats go through so many minutes, and gives what they counted.
@@ -167,7 +161,9 @@ fn counted_by<R: Files + Threads + Wait + Clock + Print + AllocGlobal + Sync>(
 {
     let mut desks = desks_of(rt.alloc(), cache, seats)?;
     let words = new_words(rt.alloc(), QUESTIONS).ok()?;
-    pass_minutes(rt, words.as_slice(), desks.as_mut_slice(), minutes)?;
+    let seconds = minutes.wrapping_mul(MINUTE);
+    pass_with_requests(rt, words.as_slice(), desks.as_mut_slice(), seconds)?;
+    pass_last(rt, words.as_slice(), desks.as_mut_slice(), seconds)?;
     let mut counted = Counted::nothing();
     for desk in desks.iter() {
         counted = counted.with(desk.counted());

@@ -331,6 +331,11 @@ impl<'a> Desk<'a> {
         }
     }
 
+    /// The number of the generation that its seat is at.
+    pub fn generation(&self) -> u64 {
+        self.seat.generation().number()
+    }
+
     /// What was counted.
     pub fn counted(&self) -> Counted {
         self.notes.counted
