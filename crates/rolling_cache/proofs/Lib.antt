@@ -3,3 +3,4 @@ mod Ending
 mod Handing
 mod Late
 mod Opening
+mod Owning

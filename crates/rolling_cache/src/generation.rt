@@ -63,8 +63,7 @@ impl Generation {
     }
 
     /// Whether one of its seats has noted that it is to end (`RollingSeat::is_ending`).
-    #[must_use]
-    pub fn is_ending(&self) -> bool {
+    pub(crate) fn is_ending(&self) -> bool {
         self.ending.load(Ordering::SeqCst)
     }
 

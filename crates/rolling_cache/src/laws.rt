@@ -1,7 +1,8 @@
 //! Laws of a rolling cache. A call of one does nothing; its contract states the law.
 ghost use denote.Param.Send.{IsSync};
-ghost use Rattle.std.specs.Prelude.{◌≡◌, ◌<◌, ◌≤◌, ℕ, List, Some};
+ghost use Rattle.std.specs.Prelude.{◌≡◌, ◌<◌, ◌≤◌, ◌⊎◌, ℕ, List, Some};
 ghost use Rattle.std.specs.List.{Any};
+ghost use mathlib.Core.List.{IsPrefix};
 ghost use Rattle.dns_answers.specs.Values.{AnswerValue};
 ghost use Rattle.dns_message.specs.declared.question.Question.{Question as Asked};
 ghost use Rattle.answer_log.specs.Groups.{group_in};
@@ -13,6 +14,7 @@ ghost use Rattle.rolling_cache.specs.Rolling.{IsAt};
 ghost use Rattle.rolling_cache.specs.contracts.rolling.RollingCache.{the_row};
 
 use crate::seat::RollingSeat;
+use answer_cache::law_seats_see_one_history;
 use dns_message::law_same_questions_are_equal;
 
 /// A law: an answer that a look-up finds was handed in to be stored for that question, in the
@@ -39,6 +41,20 @@ pub fn law_renewed_answers_as_before(seat: &RollingSeat)
 {
     let _ = seat;
     law_same_questions_are_equal();
+}
+
+/// A law: where two seats of a generation have one number, the stores of one are the first ones of
+/// the other. A seat's own stores change by its own calls alone (`StoresNothing`, `IsStored`), so
+/// two seats that both store have two numbers: no seat is given out twice.
+pub fn law_seats_have_their_own_numbers(one: &RollingSeat, other: &RollingSeat)
+    requires one { IsAt one.now }
+    requires other { IsAt other.now }
+    requires generation { one.now.generation ≡ other.now.generation }
+    requires number { one.now.seat.seat.number ≡ other.now.seat.seat.number }
+    ensures { IsPrefix one.now.seat.seat.own other.now.seat.seat.own
+        ⊎ IsPrefix other.now.seat.seat.own one.now.seat.seat.own }
+{
+    law_seats_see_one_history(&one.seat, &other.seat);
 }
 
 /// A law: threads may share a cache (`Sync`).
