@@ -107,6 +107,13 @@ pub record AreRun (gives : List ℕ → Type 0) (shows : ℕ → Type 0) (seat :
   pub gravest : IsGravest statuses status ⊎ (status ≡ 5)
   pub whole : (length lines ≤ count) ⊎ (status ≡ 5)
 
+-- what contracts see of a run: by what settings lines are located, a seat at its book, and what was
+-- printed
+pub record RunView : Type 0 where
+  pub settings : LocateSettings
+  pub seat : SeatView
+  pub printed : Option (List ℕ)
+
 -- a seat has gone on, and what might become of a line at it may still
 pub record StaysSo (gives : List ℕ → Type 0) (shows : ℕ → Type 0) (old new : SeatView) : Type 0
   where

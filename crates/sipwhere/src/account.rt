@@ -92,27 +92,26 @@ fn count_first(firsts: &mut Vec<FirstCount>, target: Target) -> Result<(), Alloc
 /// Draws the order of the targets of a request once, and counts which one comes first.
 fn draw_once<B: AnswerBook>(
     alloc: Global,
-    book: &B,
+    at: &BookAt<'_, B>,
     seat: &mut B::Seat,
     request: &Request,
     settings: &LocateSettings,
-    now: Moment,
     draw: u32,
     firsts: &mut Vec<FirstCount>,
 ) -> Result<(), AllocError>
-    requires made_here { B.belongs book.now seat.old }
-    ensures stays { B.belongs book.now seat.new }
+    requires made_here { B.belongs at.now.book.now seat.old }
+    ensures stays { B.belongs at.entry.now.book.now seat.new }
     ensures goes_on { GoesOn (B.shown seat.old) (B.shown seat.new) }
     ensures stores_nothing { StoresNothing (B.shown seat.old) (B.shown seat.new) }
-    ensures draws { OnOk result (IsDraw request.now settings.now now (B.shown seat.old).seen
-        (B.shown seat.new).seen draw firsts.old.items firsts.new.items) }
+    ensures draws { OnOk result (IsDraw request.now settings.now at.entry.now.now
+        (B.shown seat.old).seen (B.shown seat.new).seen draw firsts.old.items firsts.new.items) }
 {
     let words = RandomWords::Drawn {
         key: settings.key,
         number: FIRST_DRAW + u64::from(draw),
     };
     let view = RequestView::Read(request);
-    match locate(alloc, book, seat, &view, &settings.caps, &words, now)? {
+    match locate(alloc, at.book, seat, &view, &settings.caps, &words, at.now)? {
         Located::Targets(targets) => match targets.first() {
             Some(target) => count_first(firsts, *target),
             None => Ok(()),
@@ -125,22 +124,21 @@ fn draw_once<B: AnswerBook>(
 /// How often each target of a request comes first, in so many draws as the settings ask for.
 fn firsts_of<B: AnswerBook>(
     alloc: Global,
-    book: &B,
+    at: &BookAt<'_, B>,
     seat: &mut B::Seat,
     request: &Request,
     settings: &LocateSettings,
-    now: Moment,
 ) -> Result<Vec<FirstCount>, AllocError>
-    requires made_here { B.belongs book.now seat.old }
-    ensures stays { B.belongs book.now seat.new }
+    requires made_here { B.belongs at.now.book.now seat.old }
+    ensures stays { B.belongs at.entry.now.book.now seat.new }
     ensures goes_on { GoesOn (B.shown seat.old) (B.shown seat.new) }
     ensures stores_nothing { StoresNothing (B.shown seat.old) (B.shown seat.new) }
-    ensures draws { IfOk result (λ firsts. AreDraws request.now settings.now now
+    ensures draws { IfOk result (λ firsts. AreDraws request.now settings.now at.entry.now.now
         (B.shown seat.old).seen (B.shown seat.new).seen settings.now.draws firsts.items) }
 {
     let mut firsts = Vec::new(alloc);
     'draws: for draw in 0..settings.draws {
-        draw_once(alloc, book, seat, request, settings, now, draw, &mut firsts)?;
+        draw_once(alloc, at, seat, request, settings, draw, &mut firsts)?;
     }
     Ok(firsts)
 }
@@ -164,8 +162,9 @@ fn account_for<B: AnswerBook>(
         (IsAccount (B.shown seat.old) (B.shown seat.new) settings.now now request.now) }
     ensures server { IfOk result (λ it. it.server ≡ spec.server_for it.paths.items server) }
 {
-    let paths = paths_of(alloc, &BookAt { book, now }, seat, request)?;
-    let firsts = firsts_of(alloc, book, seat, request, settings, now)?;
+    let at = BookAt { book, now };
+    let paths = paths_of(alloc, &at, seat, request)?;
+    let firsts = firsts_of(alloc, &at, seat, request, settings)?;
     let server = if paths.is_empty() { None } else { server };
     Ok(Account {
         paths,

@@ -13,6 +13,7 @@ mod destination;
 mod line;
 mod line_input;
 mod line_result;
+mod locate_run;
 mod locate_settings;
 mod noting_wire;
 mod open_lines;

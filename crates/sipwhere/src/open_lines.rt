@@ -14,7 +14,7 @@ use crate::line_result::LineResult;
 use crate::locate_settings::LocateSettings;
 use crate::noting_wire::NameNotes;
 use crate::submitted_lines::{line_outcome_of, submit, timed_out};
-use crate::tell::{FAULT_TOLD, NOTHING_TOLD, Told, tell};
+use crate::tell::{FAULT_TOLD, NOTHING_TOLD, TimedText, Told, tell};
 use answer_cache::{AnswerBook, Stores};
 use dns_answers::Moment;
 use dns_queries::{Clock, MessageWire, Schedule};
@@ -425,7 +425,10 @@ impl<'a, B: AnswerBook + Drop, W: MessageWire + Tracer, C: Clock> OpenLines<'a, 
         let place = self.told;
         let line = self.lines.get(place)?;
         let result = self.results[place].as_ref()?;
-        let took = whole_milliseconds(self.times.get(place)?.took);
+        let timed = TimedText {
+            text: line.text,
+            took: whole_milliseconds(self.times.get(place)?.took),
+        };
         let tries = wire.take_tries();
         let next = place + 1;
         let Ok(account) = &result.account else {
@@ -437,8 +440,7 @@ impl<'a, B: AnswerBook + Drop, W: MessageWire + Tracer, C: Clock> OpenLines<'a, 
             output,
             style,
             tries.as_slice(),
-            line.text,
-            took,
+            timed,
             account,
             &result.line_outcome,
         );

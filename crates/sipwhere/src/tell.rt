@@ -61,25 +61,34 @@ fn write_text<W: Write>(output: &mut W, text: &str) -> io::Result<()>
     output.flush()
 }
 
-/// Prints what went over the wire, and what became of a text after so many milliseconds.
+/// A text, and how long it took.
+#[derive(Clone, Copy, Debug)]
+pub struct TimedText<'a> {
+    /// The text.
+    pub text: &'a str,
+    /// How many milliseconds it took.
+    pub took: u64,
+}
+
+/// Prints what went over the wire for a text, and what became of it.
 pub fn tell<O: Write>(
     alloc: Global,
     output: &mut O,
     style: Style<'_>,
     tries: &[WireTry],
-    text: &str,
-    took: u64,
+    timed: TimedText<'_>,
     account: &Account,
     line_outcome: &LineOutcome,
 ) -> Told
     ensures told { IsTold (O.contents output.old) (O.contents output.new) style.entry tries.now
-        text.now took account.now line_outcome.now result.status }
+        timed.entry.text.now timed.entry.took account.now line_outcome.now result.status }
     ensures range { result.status ≤ 5 }
     ensures closed { IsTrue result.is_closed → result.status ≡ 5 }
     ensures open { IsFalse result.is_closed → IsToldWhole (O.contents output.old)
-        (O.contents output.new) style.entry tries.now text.now took account.now line_outcome.now
-        result.status }
+        (O.contents output.new) style.entry tries.now timed.entry.text.now timed.entry.took
+        account.now line_outcome.now result.status }
 {
+    let TimedText { text, took } = timed;
     let Ok(verdict) = verdict_of(alloc, style.limits, took, line_outcome) else {
         return FAULT_TOLD;
     };

@@ -4,7 +4,7 @@ use Rattle.sipwhere.proofs.run.run_over.Goals as goal
 pub returns-clause-run : goal.returns-clause-run
 returns-clause-run g c =
     let of = c.settings_of-settings.ensures in
-    elim c.run_wire-status.ensures.run [
+    elim c.run_wire.ensures.run [
       | inl five ↦ inl five
       | inr run ↦ inr (record {
         settings = c.settings_of-settings.result;

@@ -1,26 +1,27 @@
 use Rattle.std.proofs.Common.{◌≡◌, ◌∙◌, ◌++◌, [], inl, inr, lit≤, refl}
 use Rattle.sipwhere.proofs.Told.{all-told, gravest-more, gravest-none, stays-not, stays-through, told-later, told-none, told-of, told-same}
-use Rattle.sipwhere.proofs.run.locate_open.Goals as goal
+use Rattle.sipwhere.proofs.locate_run.LocateRun.locate_open.Goals as goal
 
 pub rounds-init : goal.rounds-init
-rounds-init g c = record {
-  stays = c.requires.made_here;
-  stands = c.requires.stands;
+rounds-init g c = rw (← c.self.view_is) (record {
+  settings = refl;
+  stays = c.self.invariant;
+  stands = rw (← c.self.view_is) at c.requires.stands;
   same = (refl, refl);
   told = ([], told-none _ _ _ _ c.args.lines.now _ c.requires.told, gravest-none);
   later = stays-not _ _ _;
   range = lit≤ tt;
   closed = λ is. absurd (cc (is));
-}
+})
 
 pub advance-requires-clause-stands : goal.advance-requires-clause-stands
 advance-requires-clause-stands g c =
-    let seat = g.B.AnswerBook.shown c.rounds.seat in
+    let seat = g.B.AnswerBook.shown c.rounds.self-inside.seat in
     c.tell_all.ensures.stands seat (c.begin_all.ensures.stands seat (c.give_late_up.ensures.stands seat c.rounds.invariant.stands))
 
 pub rounds-preserved : goal.rounds-preserved
 rounds-preserved g c =
-    let seat = g.B.AnswerBook.shown c.rounds.seat in
+    let seat = g.B.AnswerBook.shown c.rounds.self-inside.seat in
     let style = c.args.style in
     let was = c.rounds.invariant.told in
     let late = c.give_late_up.ensures.same in
@@ -35,6 +36,7 @@ rounds-preserved g c =
     let all = was.0 ++ more.0 in
     let there = told-same _ _ seat style c.tell_all.new.self c.advance.new.self _ _ all on more.1 in
     record {
+      settings = c.rounds.invariant.settings;
       stays = c.advance.ensures.stays;
       stands = c.advance.ensures.stands;
       same = (
@@ -54,7 +56,7 @@ rounds-preserved g c =
 
 pub returns-then-is_done-clause-run : goal.returns-then-is_done-clause-run
 returns-then-is_done-clause-run g c =
-    let seat = g.B.AnswerBook.shown c.rounds.seat in
+    let seat = g.B.AnswerBook.shown c.rounds.self-inside.seat in
     let style = c.args.style in
     let was = c.rounds.invariant.told in
     let late = c.give_late_up.ensures.same in

@@ -6,7 +6,7 @@ use Rattle.sipwhere.specs.LineInputs.{AreTexts, numbered_from, said}
 use Rattle.sipwhere.specs.Runs.{IsRun}
 use Rattle.sipwhere.proofs.Inputs.{consumes-more, counted-on, given-over, length-numbered, none-of, numbered-held}
 use Rattle.sipwhere.proofs.Told.{texts-on}
-use Rattle.sipwhere.proofs.run.locate_input.Goals as goal
+use Rattle.sipwhere.proofs.locate_run.LocateRun.locate_input.Goals as goal
 
 pub returns-then-is_empty-clause-run : goal.returns-then-is_empty-clause-run
 returns-then-is_empty-clause-run g c =
@@ -49,11 +49,15 @@ parts-preserved g c =
     let sizes : length lines ≡ length more = sym (length-map lines said) ∙ ap length numbered ∙ length-numbered c.parts.first more in
     let count : c.as_slice-lines.result.now ≡ lines = c.as_slice-lines.ensures.value in
     let here = numbered ∙ ap (λ n. numbered_from n more) was.4 ∙ numbered-held (1 + length was.1) more in
-    let run = subst (λ l. IsRun g.W.MessageWire.gives g.C.Clock.shows (g.B.AnswerBook.shown c.locate_lines.new.seat) c.args.settings.now
-    c.args.style l (g.O.Write.contents c.parts.output) (g.O.Write.contents c.locate_lines.new.output) c.locate_lines.result.status) count
-    c.locate_lines.ensures.run in
+    let before = c.parts.self in
+    let after = c.locate_lines.new.self in
+    let status = c.locate_lines.result.status in
+    let under = subst (λ s. IsRun g.W.MessageWire.gives g.C.Clock.shows after.seat s c.args.style c.as_slice-lines.result.now before.printed
+    after.printed status) c.parts.invariant.settings c.locate_lines.ensures.run in
+    let run = subst (λ l. IsRun g.W.MessageWire.gives g.C.Clock.shows after.seat c.args.self.now.settings c.args.style l before.printed
+    after.printed status) count under in
     record {
-      stays = c.locate_lines.ensures.stays;
+      settings = c.locate_lines.ensures.settings ∙ c.parts.invariant.settings;
       read = (
         was.0 ++ next.0,
         was.1 ++ more,
@@ -61,8 +65,7 @@ parts-preserved g c =
         next.2,
         counted-on c.saturating_add-first.result c.parts.first (length c.as_slice-lines.result.now) (length was.1) (length more) _
             c.saturating_add-first.ensures (ap length count ∙ sizes) was.4 (length-append was.1 more),
-        texts-on _ _ _ _ (g.B.AnswerBook.shown c.parts.seat) _ was.1 more lines _ (g.O.Write.contents c.parts.output) _ c.parts.told.status
-            c.locate_lines.result.status _ c.locate_lines.ensures.later
+        texts-on _ _ _ _ before.seat _ was.1 more lines _ before.printed _ c.parts.told.status status _ c.locate_lines.ensures.later
             (λ five. c.and-told.ensures.fault five c.parts.invariant.range c.locate_lines.ensures.range) c.and-told.ensures.status was.5
             here run,
       );
