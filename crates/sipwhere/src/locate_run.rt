@@ -32,7 +32,7 @@ fn is_from_input(texts: &[&str]) -> bool
     }
 }
 
-/// What a run has: by what settings texts are located, and over what.
+/// What the texts of a run share: by what settings they are located, and over what.
 #[derive(Drop)]
 pub struct LocateRun<'a, B: AnswerBook<Seat: Drop>, W, C, P, O: Write> {
     /// Where its memory comes from.

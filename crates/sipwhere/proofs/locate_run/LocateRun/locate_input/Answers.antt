@@ -3,7 +3,6 @@ use Rattle.std.proofs.lemmas.Bool.Decides.{nat_tests}
 use Rattle.std.proofs.lemmas.List.{length-append, length-map}
 use Rattle.std.specs.String.{string_bytes}
 use Rattle.sipwhere.specs.LineInputs.{AreTexts, numbered_from, said}
-use Rattle.sipwhere.specs.Runs.{IsRun}
 use Rattle.sipwhere.proofs.Inputs.{consumes-more, counted-on, given-over, length-numbered, none-of, numbered-held}
 use Rattle.sipwhere.proofs.Told.{texts-on}
 use Rattle.sipwhere.proofs.locate_run.LocateRun.locate_input.Goals as goal
@@ -50,12 +49,7 @@ parts-preserved g c =
     let count : c.as_slice-lines.result.now ≡ lines = c.as_slice-lines.ensures.value in
     let here = numbered ∙ ap (λ n. numbered_from n more) was.4 ∙ numbered-held (1 + length was.1) more in
     let before = c.parts.self in
-    let after = c.locate_lines.new.self in
-    let status = c.locate_lines.result.status in
-    let under = subst (λ s. IsRun g.W.MessageWire.gives g.C.Clock.shows after.seat s c.args.style c.as_slice-lines.result.now before.printed
-    after.printed status) c.parts.invariant.settings c.locate_lines.ensures.run in
-    let run = subst (λ l. IsRun g.W.MessageWire.gives g.C.Clock.shows after.seat c.args.self.now.settings c.args.style l before.printed
-    after.printed status) count under in
+    let run = rw (c.parts.invariant.settings, count) at c.locate_lines.ensures.run in
     record {
       settings = c.locate_lines.ensures.settings ∙ c.parts.invariant.settings;
       read = (
@@ -65,9 +59,9 @@ parts-preserved g c =
         next.2,
         counted-on c.saturating_add-first.result c.parts.first (length c.as_slice-lines.result.now) (length was.1) (length more) _
             c.saturating_add-first.ensures (ap length count ∙ sizes) was.4 (length-append was.1 more),
-        texts-on _ _ _ _ before.seat _ was.1 more lines _ before.printed _ c.parts.told.status status _ c.locate_lines.ensures.later
-            (λ five. c.and-told.ensures.fault five c.parts.invariant.range c.locate_lines.ensures.range) c.and-told.ensures.status was.5
-            here run,
+        texts-on _ _ _ _ before.seat _ was.1 more lines _ before.printed _ c.parts.told.status c.locate_lines.result.status _
+            c.locate_lines.ensures.later (λ five. c.and-told.ensures.fault five c.parts.invariant.range c.locate_lines.ensures.range)
+            c.and-told.ensures.status was.5 here run,
       );
       range = c.and-told.ensures.range c.parts.invariant.range c.locate_lines.ensures.range;
       closed = c.and-told.ensures.ended c.parts.invariant.closed c.locate_lines.ensures.closed c.parts.invariant.range

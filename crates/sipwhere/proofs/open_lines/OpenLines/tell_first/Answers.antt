@@ -27,7 +27,7 @@ returns-clause-tells g c = λ seat was.
             told = elim c.tell-told.ensures.told [
               | inl printed ↦ inl (record {
                 tries = c.as_slice.result.now;
-                took = c.whole_milliseconds-took.result;
+                took = c.whole_milliseconds.result;
                 account = c.in-Ok.account;
                 accounted = rw c.in-Ok.is at is.account;
                 printed = rw (line-is d) printed;
