@@ -21,8 +21,11 @@ PRIVATE = {
     "sip_report": {"check_status", "check_line"},
     "sipwhere_options": {"servers_from", "server_from_text", "local_from_text", "attempts_by"},
     "sipwhere": {
-        *("OpenLines::settle", "OpenLines::tell_first"),
-        *("LocateRun::locate_input", "LocateRun::locate_texts", "LocateRun::locate_all"),
+        "OpenLines::settle",
+        "OpenLines::tell_first",
+        "LocateRun::locate_input",
+        "LocateRun::locate_texts",
+        "LocateRun::locate_all",
     },
 }
 
