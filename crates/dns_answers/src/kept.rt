@@ -20,9 +20,9 @@ trait Wanted: Drop + Sized {
     fn in_rdata(rdata: &Rdata) -> Option<&Self>
         ensures { option_copied result ≡ data_in rdata.now };
 
-    /// A copy.
-    fn copied(&self) -> Result<Self, AllocError>
-        ensures { IfOk result (λ copy. copy ≡ self.now) };
+    /// Adds a copy to a list, behind the others.
+    fn copy_into(&self, items: &mut Vec<Self>) -> Result<(), AllocError>
+        ensures { OnOk result (items.new.items ≡ items.old.items ++ self.now ∷ []) };
 }
 
 impl Wanted for [u8; 4] {
@@ -35,8 +35,8 @@ impl Wanted for [u8; 4] {
         }
     }
 
-    fn copied(&self) -> Result<[u8; 4], AllocError> {
-        Ok(*self)
+    fn copy_into(&self, items: &mut Vec<[u8; 4]>) -> Result<(), AllocError> {
+        Ok(items.push(*self)?)
     }
 }
 
@@ -50,8 +50,8 @@ impl Wanted for [u8; 16] {
         }
     }
 
-    fn copied(&self) -> Result<[u8; 16], AllocError> {
-        Ok(*self)
+    fn copy_into(&self, items: &mut Vec<[u8; 16]>) -> Result<(), AllocError> {
+        Ok(items.push(*self)?)
     }
 }
 
@@ -65,8 +65,13 @@ impl Wanted for SrvRecord {
         }
     }
 
-    fn copied(&self) -> Result<SrvRecord, AllocError> {
-        self.try_clone()
+    // It is made a copy where it lies in the list, so that no record is moved.
+    fn copy_into(&self, items: &mut Vec<SrvRecord>) -> Result<(), AllocError> {
+        items.push(SrvRecord::unread(*items.allocator()))?;
+        match items.as_mut_slice().last_mut() {
+            Some(place) => place.copy_from(self),
+            None => Ok(()),
+        }
     }
 }
 
@@ -80,8 +85,8 @@ impl Wanted for NaptrRecord {
         }
     }
 
-    fn copied(&self) -> Result<NaptrRecord, AllocError> {
-        self.try_clone()
+    fn copy_into(&self, items: &mut Vec<NaptrRecord>) -> Result<(), AllocError> {
+        Ok(items.push(self.try_clone()?)?)
     }
 }
 
@@ -104,8 +109,7 @@ fn push_copy<T: Wanted>(items: &mut Vec<T>, item: &T, room: usize) -> Result<(),
     if items.is_empty() {
         items.reserve_exact(room)?;
     }
-    items.push(item.copied()?)?;
-    Ok(())
+    item.copy_into(items)
 }
 
 /// The first 32 records of a section that have such data for a name: their data, and the life of

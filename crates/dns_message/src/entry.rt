@@ -26,9 +26,9 @@ pub(crate) trait Entry: Sized + Drop {
         bytes: &[u8],
         landings: &Landings,
         offset: usize,
-        asked: Option<AskedName<'_>>,
+        asked: Option<&AskedName<'_>>,
     ) -> Result<usize, EntryRefusal>
-        requires asked { IfSome asked (IsAskedName bytes.now) }
+        requires asked { IfSome asked (λ it. IsAskedName bytes.now it.now) }
         requires known { AreLandings bytes.now landings.now }
         ensures found { IfOk result (λ end. stands bytes.now offset self.new end) }
         ensures read { (entry : Self) (end : ℕ) → stands bytes.now offset entry end
@@ -50,9 +50,9 @@ fn refusal_at<E: Entry>(
     bytes: &[u8],
     landings: &Landings,
     offset: usize,
-    asked: Option<AskedName<'_>>,
+    asked: Option<&AskedName<'_>>,
 ) -> EntryRefusal
-    requires asked { IfSome asked (IsAskedName bytes.now) }
+    requires asked { IfSome asked (λ it. IsAskedName bytes.now it.now) }
     requires known { AreLandings bytes.now landings.now }
     ensures read { (entry : E) (end : ℕ) → E.stands bytes.now offset entry end
         → result ≡ EntryRefusal.Memory }
@@ -65,42 +65,19 @@ fn refusal_at<E: Entry>(
     }
 }
 
-/// Finds out where the pointers of a message lead, where a name had many of them.
-#[inline(always)]
-fn settle(alloc: Global, bytes: &[u8], landings: &mut Landings)
-    requires { AreLandings bytes.now landings.old }
-    ensures { AreLandings bytes.now landings.new }
-{
-    if landings.are_wanted() {
-        landings.find(alloc, bytes);
-    }
-}
+/// For how many room is made at once.
+const MOST_ROOM: usize = 32;
 
-/// How many are read before room is made for more at once.
-const FIRST_ROOM: usize = 4;
+/// How many octets each has at least: the root, a type and a class (RFC 1035 4.1.2).
+const LEAST_OCTETS: usize = 5;
 
-/// For how many more room is made at once.
-const MORE_ROOM: usize = 28;
-
-/// Makes room for all that are still to come, or for so many where these are more. Where there is
-/// no memory for that, each one asks for its own.
-#[cold]
-#[inline(never)]
-fn make_more_room<E: Entry>(entries: &mut Vec<E>, count: u16)
+/// Makes room for so many at once, in so many octets. Where there is no memory for that, each
+/// asks for its own.
+fn make_room<E: Entry>(entries: &mut Vec<E>, count: u16, octets: usize)
     ensures { entries.new.items ≡ entries.old.items }
 {
-    let to_come = usize::from(count).saturating_sub(FIRST_ROOM);
-    let _ = entries.reserve_exact(to_come.min(MORE_ROOM));
-}
-
-/// Makes room for more at once, when the first few of so many were read.
-#[inline(always)]
-fn make_room<E: Entry>(entries: &mut Vec<E>, count: u16)
-    ensures { entries.new.items ≡ entries.old.items }
-{
-    if entries.len() == FIRST_ROOM {
-        make_more_room(entries, count);
-    }
+    let most = (octets / LEAST_OCTETS).min(MOST_ROOM);
+    let _ = entries.reserve_exact(usize::from(count).min(most));
 }
 
 /// Reads so many from an offset on into an empty list, and gives the offset after them.
@@ -110,11 +87,11 @@ fn read_entries<E: Entry>(
     landings: &mut Landings,
     offset: usize,
     count: u16,
-    asked: Option<AskedName<'_>>,
+    asked: Option<&AskedName<'_>>,
     entries: &mut Vec<E>,
 ) -> Result<usize, EntryRefusal>
     requires empty { entries.old.items ≡ [] }
-    requires asked { IfSome asked (IsAskedName bytes.now) }
+    requires asked { IfSome asked (λ it. IsAskedName bytes.now it.now) }
     requires known { AreLandings bytes.now landings.old }
     ensures known { AreLandings bytes.now landings.new }
     ensures found { IfOk result (λ end. AllAt (E.stands bytes.now) offset entries.new.items end
@@ -126,51 +103,93 @@ fn read_entries<E: Entry>(
     ensures memory { IfErr result (λ refusal. refusal ≡ EntryRefusal.Memory
         → NamedAt bytes.now offset) }
 {
+    make_room(entries, count, bytes.len().saturating_sub(offset));
     let mut offset = offset;
     for _ in 0..count {
         let place = entries.len();
-        make_room(entries, count);
         let Ok(()) = entries.push(E::unread(alloc)) else {
             return Err(refusal_at::<E>(alloc, bytes, landings, offset, asked));
         };
         offset = entries[place].read_over(alloc, bytes, landings, offset, asked)?;
-        settle(alloc, bytes, landings);
+        if landings.are_wanted() {
+            landings.find(alloc, bytes);
+        }
     }
     Ok(offset)
 }
 
-/// Reads the section of so many, as this part of the message, into an empty list, and gives the
-/// offset after it.
-#[inline(always)]
+/// A section of a message: which part it is, and how many the header counts there.
+#[derive(Clone, Copy)]
+pub(crate) struct Counted {
+    pub part: Part,
+    pub count: u16,
+}
+
+/// Reads a section into an empty list, and gives the offset after it.
 pub(crate) fn read_section<E: Entry>(
     alloc: Global,
     bytes: &[u8],
     landings: &mut Landings,
     offset: usize,
-    count: u16,
-    part: Part,
-    asked: Option<AskedName<'_>>,
+    section: Counted,
+    asked: Option<&AskedName<'_>>,
     entries: &mut Vec<E>,
 ) -> Result<usize, MessageRefusal>
     requires empty { entries.old.items ≡ [] }
-    requires asked { IfSome asked (IsAskedName bytes.now) }
+    requires asked { IfSome asked (λ it. IsAskedName bytes.now it.now) }
     requires known { AreLandings bytes.now landings.old }
     ensures known { AreLandings bytes.now landings.new }
     ensures found { IfOk result (λ end. AllAt (E.stands bytes.now) offset entries.new.items end
-        × (length entries.new.items ≡ count)) }
+        × (length entries.new.items ≡ section.count)) }
     ensures read { (all : List E) (end : ℕ) → AllAt (E.stands bytes.now) offset all end
-        → length all ≡ count
+        → length all ≡ section.count
         → MatchResult result (λ found. (entries.new.items ≡ all) × (found ≡ end))
         (λ refusal. refusal ≡ MessageRefusal.Memory) }
-    ensures refused { IfErr result (λ refusal. IsOfPart refusal part) }
+    ensures refused { IfErr result (λ refusal. IsOfPart refusal section.part) }
     ensures memory { IfErr result
         (λ refusal. refusal ≡ MessageRefusal.Memory → NamedAt bytes.now offset) }
 {
-    if count == 0 {
+    match read_entries(
+        alloc,
+        bytes,
+        landings,
+        offset,
+        section.count,
+        asked,
+        entries,
+    ) {
+        Ok(after) => Ok(after),
+        Err(refusal) => Err(refusal.of_part(section.part)),
+    }
+}
+
+/// The same, for a section that few messages have: where none is counted, nothing is called.
+#[inline]
+pub(crate) fn read_section_if_any<E: Entry>(
+    alloc: Global,
+    bytes: &[u8],
+    landings: &mut Landings,
+    offset: usize,
+    section: Counted,
+    asked: Option<&AskedName<'_>>,
+    entries: &mut Vec<E>,
+) -> Result<usize, MessageRefusal>
+    requires empty { entries.old.items ≡ [] }
+    requires asked { IfSome asked (λ it. IsAskedName bytes.now it.now) }
+    requires known { AreLandings bytes.now landings.old }
+    ensures known { AreLandings bytes.now landings.new }
+    ensures found { IfOk result (λ end. AllAt (E.stands bytes.now) offset entries.new.items end
+        × (length entries.new.items ≡ section.count)) }
+    ensures read { (all : List E) (end : ℕ) → AllAt (E.stands bytes.now) offset all end
+        → length all ≡ section.count
+        → MatchResult result (λ found. (entries.new.items ≡ all) × (found ≡ end))
+        (λ refusal. refusal ≡ MessageRefusal.Memory) }
+    ensures refused { IfErr result (λ refusal. IsOfPart refusal section.part) }
+    ensures memory { IfErr result
+        (λ refusal. refusal ≡ MessageRefusal.Memory → NamedAt bytes.now offset) }
+{
+    if section.count == 0 {
         return Ok(offset);
     }
-    match read_entries(alloc, bytes, landings, offset, count, asked, entries) {
-        Ok(after) => Ok(after),
-        Err(refusal) => Err(refusal.of_part(part)),
-    }
+    read_section(alloc, bytes, landings, offset, section, asked, entries)
 }

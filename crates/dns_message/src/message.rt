@@ -5,7 +5,7 @@ ghost use Rattle.dns_message.specs.Offsets.{NamedAt};
 ghost use Rattle.dns_message.specs.declared.refusal.Part as part;
 ghost use Rattle.dns_message.specs.declared.message.Message as message;
 
-use crate::entry::read_section;
+use crate::entry::{Counted, read_section, read_section_if_any};
 use crate::header::{Header, header_at};
 use crate::owner::AskedName;
 use crate::question::Asked;
@@ -39,8 +39,9 @@ pub struct Message {
 /// Reads the message in front of these octets. What comes after its counted questions and records
 /// is ignored.
 ///
-/// Memory is taken as questions and records are read, and never for a count of the header alone:
-/// where four of a section were read, it is taken for as many as the count says, 28 at most.
+/// Memory is taken for as many questions or records at once as the header counts, but for 32 at
+/// most, and for no more than the octets that are left can hold; for more it is taken as they are
+/// read.
 #[inline(always)]
 pub fn read_message(alloc: Global, bytes: &[u8]) -> Result<Message, MessageRefusal>
     // What is read stands in front of the octets.
@@ -76,39 +77,48 @@ pub fn read_message(alloc: Global, bytes: &[u8]) -> Result<Message, MessageRefus
         bytes,
         &mut landings,
         HEADER_END,
-        counts.questions,
-        Part::Questions,
+        Counted {
+            part: Part::Questions,
+            count: counts.questions,
+        },
         None,
         &mut questions,
     )?;
     let asked = AskedName::of(&questions, offset);
+    let asked = asked.as_ref();
     let offset = read_section(
         alloc,
         bytes,
         &mut landings,
         offset,
-        counts.answers,
-        Part::Answers,
+        Counted {
+            part: Part::Answers,
+            count: counts.answers,
+        },
         asked,
         &mut answers,
     )?;
-    let offset = read_section(
+    let offset = read_section_if_any(
         alloc,
         bytes,
         &mut landings,
         offset,
-        counts.authority,
-        Part::Authority,
+        Counted {
+            part: Part::Authority,
+            count: counts.authority,
+        },
         asked,
         &mut authority,
     )?;
-    let _ = read_section(
+    let _ = read_section_if_any(
         alloc,
         bytes,
         &mut landings,
         offset,
-        counts.additional,
-        Part::Additional,
+        Counted {
+            part: Part::Additional,
+            count: counts.additional,
+        },
         asked,
         &mut additional,
     )?;

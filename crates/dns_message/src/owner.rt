@@ -52,10 +52,10 @@ pub(crate) fn read_owner(
     bytes: &[u8],
     landings: &Landings,
     offset: usize,
-    asked: Option<AskedName<'_>>,
+    asked: Option<&AskedName<'_>>,
     owner: &mut Name,
 ) -> Result<usize, NameReadRefusal>
-    requires asked { IfSome asked (IsAskedName bytes.now) }
+    requires asked { IfSome asked (λ it. IsAskedName bytes.now it.now) }
     requires known { AreLandings bytes.now landings.now }
     ensures found { IfOk result (λ end. NameAt bytes.now offset offset owner.new end) }
     ensures read { (name : List (List ℕ)) (end : ℕ) → NameAt bytes.now offset offset name end

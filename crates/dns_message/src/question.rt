@@ -137,7 +137,7 @@ impl Entry for Asked {
         bytes: &[u8],
         landings: &Landings,
         offset: usize,
-        _asked: Option<AskedName<'_>>,
+        _asked: Option<&AskedName<'_>>,
     ) -> Result<usize, EntryRefusal> {
         law_name_rests_before_its_end();
         law_one_name_at_an_offset();

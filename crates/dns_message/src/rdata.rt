@@ -188,7 +188,12 @@ fn read_server(
         → MatchResult result (λ _. rdata.new ≡ variant.Srv server)
         (λ refusal. refusal ≡ EntryRefusal.Memory) }
 {
-    replace_data(rdata, Rdata::Srv(SrvRecord::unread(alloc)));
+    // As `replace_data`, in its place, so that no data is moved.
+    if let Rdata::Addr4(_) = rdata {
+        *rdata = Rdata::Srv(SrvRecord::unread(alloc));
+    } else {
+        *rdata = Rdata::Srv(SrvRecord::unread(alloc));
+    }
     let Rdata::Srv(server) = rdata else {
         return Err(EntryRefusal::Malformed);
     };
@@ -255,7 +260,7 @@ fn read_addr4(octets: &[u8], rdata: &mut Rdata) -> Result<(), EntryRefusal>
     if let Rdata::Addr4(place) = rdata {
         *place = address;
     } else {
-        replace_data(rdata, Rdata::Addr4(address));
+        *rdata = Rdata::Addr4(address);
     }
     Ok(())
 }
@@ -266,7 +271,13 @@ fn read_addr6(octets: &[u8], rdata: &mut Rdata) -> Result<(), EntryRefusal>
         (λ _. (rdata.new ≡ variant.Addr6 octets.now) × (length octets.now ≡ 16))
         (λ _. length octets.now ≢ 16) }
 {
-    replace_data(rdata, Rdata::Addr6(address_of(octets)?));
+    let address = address_of(octets)?;
+    // As `replace_data`, in its place, so that no data is moved.
+    if let Rdata::Addr4(_) = rdata {
+        *rdata = Rdata::Addr6(address);
+    } else {
+        *rdata = Rdata::Addr6(address);
+    }
     Ok(())
 }
 

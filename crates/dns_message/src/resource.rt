@@ -83,7 +83,7 @@ impl Entry for Record {
         bytes: &[u8],
         landings: &Landings,
         offset: usize,
-        asked: Option<AskedName<'_>>,
+        asked: Option<&AskedName<'_>>,
     ) -> Result<usize, EntryRefusal> {
         law_name_rests_before_its_end();
         law_one_name_at_an_offset();

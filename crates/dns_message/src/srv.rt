@@ -1,5 +1,5 @@
 //! SRV records (RFC 2782).
-ghost use Rattle.std.specs.Prelude.{◌≡◌, ◌<◌, ◌≤◌, ℕ, length, ◌+◌, IfOk, IfErr, MatchOption, MatchResult, ◌++◌, OnOk, OnErr};
+ghost use Rattle.std.specs.Prelude.{◌≡◌, ◌<◌, ◌≤◌, ℕ, [], length, ◌+◌, IfOk, IfErr, MatchOption, MatchResult, ◌++◌, OnOk, OnErr};
 ghost use Rattle.dns_name.specs.Landings.{AreLandings};
 ghost use Rattle.dns_message.specs.Layouts.{SrvAt};
 ghost use Rattle.std.specs.Int.{w16};
@@ -29,14 +29,33 @@ pub struct SrvRecord {
 }
 
 impl SrvRecord {
-    /// One that is still to be read.
-    pub(crate) fn unread(alloc: Global) -> SrvRecord {
+    /// One that is still to be read, or to be made a copy: its numbers are 0, and its target is the
+    /// root. Takes no memory.
+    #[must_use]
+    pub fn unread(alloc: Global) -> SrvRecord
+        ensures { result ≡ (record { priority = 0; weight = 0; port = 0; target = [] }) }
+    {
         SrvRecord {
             priority: 0,
             weight: 0,
             port: 0,
             target: Name::root(alloc),
         }
+    }
+
+    /// Makes this one a copy of another record, where it lies. After an error it is as before.
+    ///
+    /// # Errors
+    /// Where memory is refused. It is asked for where the target has more than 31 octets.
+    pub fn copy_from(&mut self, other: &SrvRecord) -> Result<(), AllocError>
+        ensures ok { OnOk result (self.new ≡ other.now) }
+        ensures err { OnErr result (self.new ≡ self.old) }
+    {
+        self.target.copy_from(&other.target)?;
+        self.priority = other.priority;
+        self.weight = other.weight;
+        self.port = other.port;
+        Ok(())
     }
 
     /// A copy of the record.

@@ -4,10 +4,11 @@ use Rattle.std.proofs.lemmas.Result.{err_from_is_err_and}
 use Rattle.dns_message.specs.Offsets.{NamedAt, none}
 use Rattle.dns_message.proofs.Offsets.{AllAt-push, AllAt-first, Follows-push, Follows-next, Follows-all}
 use Rattle.dns_message.proofs.entry.read_entries.Goals as goal
+use Rattle.dns_message.proofs.entry.read_entries.Goals.{then-are_wanted, else-are_wanted}
 
 pub loop-init : goal.loop-init
 loop-init g c =
-    rw c.requires.empty (record {
+    rw (c.make_room.ensures, c.requires.empty) (record {
       so_far = none refl;
       follows = λ others end there size. (others, refl, there);
       count = refl;
@@ -21,11 +22,14 @@ loop-preserved g c =
     let entry = c.read_over.new.self in
     let read = c.in_ok-offset in
     let placed = set_at l.entries.items c.unread.result [] entry c.len-place.result (omega (arith, c.len-place.ensures)) in
-    rw (c.in-Ok.ensures.items, c.make_room.ensures, placed) (record {
+    rw (c.in-Ok.ensures.items, placed) (record {
       so_far = AllAt-push stands read.offset entry l.invariant.so_far read.ensures.found;
       follows = Follows-push stands c.args.offset l.offset read.offset entry l.entries.items l.invariant.follows read.ensures.read;
       count = length_push l.entries.items entry ∙ omega arith;
-      known = c.settle.ensures;
+      known = elim c.if-are_wanted.branch [
+        | then-are_wanted w ↦ rw w.landings-is w.find.ensures
+        | else-are_wanted w ↦ rw w.landings-is l.invariant.known
+      ];
     })
 
 pub returns-clause-read : goal.returns-clause-read

@@ -8,7 +8,7 @@ use Rattle.dns_message.proofs.Questions.{questions_named}
 use Rattle.dns_message.proofs.Records.{records_named}
 use Rattle.dns_message.specs.declared.refusal.Part.TheVariants.{Answers, Authority, Additional}
 use Rattle.dns_message.proofs.message.read_message.Goals as goal
-use Rattle.dns_message.proofs.message.read_message.Goals.{In_ok-header, In_ok-read_section}
+use Rattle.dns_message.proofs.message.read_message.Goals.{In_ok-header, In_ok-read_section_if_any}
 
 header : (c : In_ok-header) → HeaderAt c.args.bytes.now c.in_ok-header.header × CountsAt c.args.bytes.now c.in_ok-header.counts
 header c = rw c.in_ok-header.ensures.ok_part at c.header_at.ensures
@@ -21,23 +21,23 @@ whole c found end spelled =
     c.args.bytes.now found end spelled in
     (there, counted c.args.bytes.now c.in_ok-header.counts found _ (header c).1 there)
 
-abbrev message_read : In_ok-read_section → Message
+abbrev message_read : In_ok-read_section_if_any → Message
 message_read c = record {
   header = c.in_ok-header.header;
   questions = c.read_section.new.entries.items;
   answers = c.read_section-2.new.entries.items;
-  authority = c.read_section-3.new.entries.items;
-  additional = c.read_section-4.new.entries.items;
+  authority = c.read_section_if_any.new.entries.items;
+  additional = c.read_section_if_any-2.new.entries.items;
 }
 
 -- what was read stands there
-this : (c : In_ok-read_section) → HeaderAt c.args.bytes.now c.in_ok-header.header × CountsAt c.args.bytes.now c.in_ok-header.counts
-    → MessageAt c.args.bytes.now (message_read c) c.in_ok-read_section.field-0
+this : (c : In_ok-read_section_if_any) → HeaderAt c.args.bytes.now c.in_ok-header.header × CountsAt c.args.bytes.now c.in_ok-header.counts
+    → MessageAt c.args.bytes.now (message_read c) c.in_ok-read_section_if_any.field-0
 this c read =
     let questions = c.in_ok-offset.ensures.found in
     let answers = c.in_ok-offset-2.ensures.found in
     let authority = c.in_ok-offset-3.ensures.found in
-    let additional = c.in_ok-read_section.ensures.found in
+    let additional = c.in_ok-read_section_if_any.ensures.found in
     record {
       header = read.0;
       question_count = rw questions.1 read.1.questions;
@@ -61,19 +61,19 @@ pub returns-clause-found : goal.returns-clause-found
 returns-clause-found c =
     let at = goal.at.returns-clause-found c in
     let laws = c.law_name_rests_before_its_end.ensures in
-    let end : ℕ = c.in_ok-read_section.field-0 in
-    let read = this at.In_ok-read_section (header at.In_ok-header) in
-    let within = MessageAt-within laws.within c.args.bytes.now (message_read at.In_ok-read_section) end read in
+    let end : ℕ = c.in_ok-read_section_if_any.field-0 in
+    let read = this at.In_ok-read_section_if_any (header at.In_ok-header) in
+    let within = MessageAt-within laws.within c.args.bytes.now (message_read at.In_ok-read_section_if_any) end read in
     rw (c.from_vec.ensures, c.from_vec-2.ensures, c.from_vec-3.ensures, c.from_vec-4.ensures)
-    (end, within, Spells-front laws.within laws.local c.args.bytes.now (message_read at.In_ok-read_section) end within read)
+    (end, within, Spells-front laws.within laws.local c.args.bytes.now (message_read at.In_ok-read_section_if_any) end within read)
 
 pub returns-clause-read : goal.returns-clause-read
 returns-clause-read c = λ end found spelled short.
     let at = goal.at.returns-clause-read c in
     rw (c.from_vec.ensures, c.from_vec-2.ensures, c.from_vec-3.ensures, c.from_vec-4.ensures)
-    (one_message c.law_one_name_at_an_offset.ensures c.args.bytes.now (message_read at.In_ok-read_section) found
-    c.in_ok-read_section.field-0
-    (length (take end c.args.bytes.now)) (this at.In_ok-read_section (header at.In_ok-header)) (whole at.In_ok-header found end spelled).0)
+    (one_message c.law_one_name_at_an_offset.ensures c.args.bytes.now (message_read at.In_ok-read_section_if_any) found
+    c.in_ok-read_section_if_any.field-0
+    (length (take end c.args.bytes.now)) (this at.In_ok-read_section_if_any (header at.In_ok-header)) (whole at.In_ok-header found end spelled).0)
 
 -- ---- where reading stops, it stops for want of memory
 
@@ -98,14 +98,14 @@ returns-in_err-offset-3-clause-read c = λ end found spelled short.
     let p = err_from_is_err_and c.from_residual-in_err-offset-3.result c.from_residual-in_err-offset-3.ensures.1 in
     rw p.1 (p.2 ∙ c.in_err-offset-3.ensures.read found.authority w.0.additional_start (rw e1.1 w.0.authority) w.1.authority)
 
-pub returns-in_err-read_section-clause-read : goal.returns-in_err-read_section-clause-read
-returns-in_err-read_section-clause-read c = λ end found spelled short.
-    let w = whole (goal.at.returns-in_err-read_section-clause-read c).In_ok-header found end spelled in
+pub returns-in_err-read_section_if_any-clause-read : goal.returns-in_err-read_section_if_any-clause-read
+returns-in_err-read_section_if_any-clause-read c = λ end found spelled short.
+    let w = whole (goal.at.returns-in_err-read_section_if_any-clause-read c).In_ok-header found end spelled in
     let e0 = c.in_ok-offset.ensures.read found.questions w.0.answers_start w.0.questions w.1.questions in
     let e1 = c.in_ok-offset-2.ensures.read found.answers w.0.authority_start (rw e0.1 w.0.answers) w.1.answers in
     let e2 = c.in_ok-offset-3.ensures.read found.authority w.0.additional_start (rw e1.1 w.0.authority) w.1.authority in
-    let p = err_from_is_err_and c.from_residual-in_err-read_section.result c.from_residual-in_err-read_section.ensures.1 in
-    rw p.1 (p.2 ∙ c.in_err-read_section.ensures.read found.additional (length (take end c.args.bytes.now))
+    let p = err_from_is_err_and c.from_residual-in_err-read_section_if_any.result c.from_residual-in_err-read_section_if_any.ensures.1 in
+    rw p.1 (p.2 ∙ c.in_err-read_section_if_any.ensures.read found.additional (length (take end c.args.bytes.now))
     (rw e2.1 w.0.additional) w.1.additional)
 
 -- ---- which part it was
@@ -125,9 +125,9 @@ returns-in_err-offset-3-clause-malformed c = λ part is end found spelled.
     let memory = rw is at (returns-in_err-offset-3-clause-read c end found spelled (omega arith)) in
     absurd cc
 
-pub returns-in_err-read_section-clause-malformed : goal.returns-in_err-read_section-clause-malformed
-returns-in_err-read_section-clause-malformed c = λ part is end found spelled.
-    let memory = rw is at (returns-in_err-read_section-clause-read c end found spelled (omega arith)) in
+pub returns-in_err-read_section_if_any-clause-malformed : goal.returns-in_err-read_section_if_any-clause-malformed
+returns-in_err-read_section_if_any-clause-malformed c = λ part is end found spelled.
+    let memory = rw is at (returns-in_err-read_section_if_any-clause-read c end found spelled (omega arith)) in
     absurd cc
 
 pub returns-in_err-offset-2-clause-refused : goal.returns-in_err-offset-2-clause-refused
@@ -165,25 +165,25 @@ returns-in_err-offset-3-clause-refused c =
           c.in_err-offset-3.ensures.read is there,
     )))
 
-pub returns-in_err-read_section-clause-refused : goal.returns-in_err-read_section-clause-refused
-returns-in_err-read_section-clause-refused c =
+pub returns-in_err-read_section_if_any-clause-refused : goal.returns-in_err-read_section_if_any-clause-refused
+returns-in_err-read_section_if_any-clause-refused c =
     let bytes = c.args.bytes.now in
-    let counts = (header (goal.at.returns-in_err-read_section-clause-refused c).In_ok-header).1 in
+    let counts = (header (goal.at.returns-in_err-read_section_if_any-clause-refused c).In_ok-header).1 in
     let questions = c.in_ok-offset.ensures.found in
     let answers = c.in_ok-offset-2.ensures.found in
     let authority = c.in_ok-offset-3.ensures.found in
-    let refusal = c.in_err-read_section.field-0.0 in
-    let p = err_from_is_err_and c.from_residual-in_err-read_section.result c.from_residual-in_err-read_section.ensures.1 in
-    rw (p.1, p.2) (refused_where bytes Additional refusal c.in_err-read_section.ensures.refused
+    let refusal = c.in_err-read_section_if_any.field-0.0 in
+    let p = err_from_is_err_and c.from_residual-in_err-read_section_if_any.result c.from_residual-in_err-read_section_if_any.ensures.1 in
+    rw (p.1, p.2) (refused_where bytes Additional refusal c.in_err-read_section_if_any.ensures.refused
     (λ is. questions_named bytes questions.0
-    (records_named bytes answers.0 (records_named bytes authority.0 (c.in_err-read_section.ensures.memory is))))
+    (records_named bytes answers.0 (records_named bytes authority.0 (c.in_err-read_section_if_any.ensures.memory is))))
     (λ is. (
       c.in_ok-offset.offset,
       c.in_ok-offset-2.offset,
       c.in_ok-offset-3.offset,
       record { questions = c.read_section.new.entries.items; count = rw questions.1 counts.questions; stand = questions.0 },
       record { records = c.read_section-2.new.entries.items; count = rw answers.1 counts.answers; stand = answers.0 },
-      record { records = c.read_section-3.new.entries.items; count = rw authority.1 counts.authority; stand = authority.0 },
+      record { records = c.read_section_if_any.new.entries.items; count = rw authority.1 counts.authority; stand = authority.0 },
       λ end there. no_records bytes 10 c.in_ok-header.counts.additional c.in_ok-offset-3.offset end Additional refusal counts.additional
-          c.in_err-read_section.ensures.read is there,
+          c.in_err-read_section_if_any.ensures.read is there,
     )))
