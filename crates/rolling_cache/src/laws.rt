@@ -45,8 +45,8 @@ pub fn law_renewed_answers_as_before(seat: &RollingSeat)
 
 /// A law: where two seats of a generation have one number, the stores of one are the first ones of
 /// the other. A seat's own stores change by its own calls alone (`StoresNothing`, `IsStored`), so
-/// two seats that both store have two numbers: no seat is given out twice.
-pub fn law_seats_have_their_own_numbers(one: &RollingSeat, other: &RollingSeat)
+/// two seats that store different answers have two numbers.
+pub fn law_one_number_has_one_list_of_stores(one: &RollingSeat, other: &RollingSeat)
     requires one { IsAt one.now }
     requires other { IsAt other.now }
     requires generation { one.now.generation ≡ other.now.generation }

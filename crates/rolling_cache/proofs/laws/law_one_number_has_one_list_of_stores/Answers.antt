@@ -4,7 +4,7 @@ use mathlib.Core.List.{IsPrefix}
 use Rattle.answer_cache.specs.Shared.{SharedView}
 use Rattle.rolling_cache.specs.Rolling.{RollingView}
 use Rattle.rolling_cache.proofs.Owning.{own-one}
-use Rattle.rolling_cache.proofs.laws.law_seats_have_their_own_numbers.Goals as goal
+use Rattle.rolling_cache.proofs.laws.law_one_number_has_one_list_of_stores.Goals as goal
 
 pub returns : goal.returns
 returns c =
