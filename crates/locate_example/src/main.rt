@@ -16,7 +16,6 @@ use sip_selection::{Caps, Families, Request};
 use sip_uri::Transport::{Tcp, Tls, Udp};
 use sip_uri::{SipUri, address_text, read_uri};
 use srv_choice::RandomWords;
-use std::alloc::Global;
 use std::net::{Net, SocketAddr};
 use std::process::ExitCode;
 use std::random::RandomSource;
@@ -36,9 +35,8 @@ const LIMITS: Limits = Limits {
 const NUMBER: u64 = 1;
 
 /// Asks for a request over a wire, with a key of its random ids and words, until it ends.
-fn resolve<R: Wait, B: Stores<R> + Drop, W: MessageWire, C: queries::Clock>(
+fn resolve<R: Wait + AllocGlobal, B: Stores<R> + Drop, W: MessageWire, C: queries::Clock>(
     rt: &R,
-    alloc: Global,
     request: Request,
     key: [u8; 32],
     book: &B,
@@ -50,7 +48,7 @@ fn resolve<R: Wait, B: Stores<R> + Drop, W: MessageWire, C: queries::Clock>(
 {
     let caps = Caps::new(&[Udp, Tcp, Tls], Families::V4ThenV6)?;
     let ids = random_ids(key, NUMBER);
-    let Ok(mut resolver) = Resolver::<B, WireFacts<W, C>, _>::new(alloc, LIMITS, ids) else {
+    let Ok(mut resolver) = Resolver::<B, WireFacts<W, C>, _>::new(rt.alloc(), LIMITS, ids) else {
         return None;
     };
     let words = RandomWords::Drawn {
@@ -66,16 +64,15 @@ fn resolve<R: Wait, B: Stores<R> + Drop, W: MessageWire, C: queries::Clock>(
 }
 
 /// The same with a book of its own.
-fn resolve_over<R: Wait, W: MessageWire, C: queries::Clock>(
+fn resolve_over<R: Wait + AllocGlobal, W: MessageWire, C: queries::Clock>(
     rt: &R,
-    alloc: Global,
     request: Request,
     key: [u8; 32],
     wire: &mut W,
     clock: &C,
 ) -> Option<Outcome> {
-    let (book, mut seat) = ListCache::new(alloc);
-    let ended = resolve(rt, alloc, request, key, &book, &mut seat, wire, clock)?;
+    let (book, mut seat) = ListCache::new(rt.alloc());
+    let ended = resolve(rt, request, key, &book, &mut seat, wire, clock)?;
     Some(ended.into_outcome())
 }
 
@@ -97,7 +94,7 @@ fn resolve_at<R: Wait + Net + Clock + RandomSource + AllocGlobal>(
     let key = random_key(rt)?;
     let clock = RunClock::start(rt)?;
     let mut wire = open_wire(rt, rt.alloc(), &[server], None, options, key)?;
-    let outcome = resolve_over(rt, rt.alloc(), request, key, &mut wire, &clock);
+    let outcome = resolve_over(rt, request, key, &mut wire, &clock);
     drop(wire);
     Ok(outcome)
 }
