@@ -43,10 +43,10 @@
 //! it is for long stores where no other one looks, and keeps no more than those.
 //!
 //! A seat is one of the cache that gave it: contracts tell a cache by its first generation
-//! (`root_of`), and no other cache takes the seat. No seat is given out twice: what the seats of one
-//! number have stored is one list (`law_one_number_has_one_list_of_stores`), so two seats that store
-//! different answers have two numbers. A seat goes over to later generations alone (`IsLater`). That
-//! the one it leaves is among those before the next one is so, but no contract says it.
+//! (`root_of`), and no other cache takes the seat. No seat is given out twice: the stores of seats
+//! of one number are one list (`law_one_number_has_one_list_of_stores`), so two seats that store
+//! different answers have two numbers. A seat goes over to later generations alone (`IsLater`).
+//! That the one it leaves is among those before the next one is so, but no contract says it.
 //!
 //! A generation is freed when its last seat has left it and a later one is present. So a thread
 //! that calls nothing for long keeps one old generation, and no other one.
